@@ -1,0 +1,4 @@
+pub mod Descriptions
+pub mod Encoding
+pub mod Fields
+pub mod Judging

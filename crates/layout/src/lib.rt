@@ -1,0 +1,1 @@
+// The layout of mode sheets: definitions and theorems, and no code.

@@ -1,0 +1,6 @@
+pub mod Unless
+pub mod Places
+pub mod Rooms
+pub mod Surveys
+pub mod Sought
+pub mod Shapes
