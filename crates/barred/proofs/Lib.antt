@@ -1,0 +1,3 @@
+pub mod Below
+pub mod Listed
+pub mod Kept
