@@ -120,7 +120,7 @@ good-label bytes s e =
     let p = field-none bytes (label-at bytes s) 4 (ltb (label-in bytes s) (2 ^ name-count bytes)) (at BadEntry (label-at bytes s)) e in
     record { room = p .0; bits = ltb-true (label-in bytes s) (2 ^ name-count bytes) (p .1) }
 
-pub label-none : (bytes : List ℕ) (s : ℕ) → Good-label bytes s → label-fault bytes s ≡ None
+label-none : (bytes : List ℕ) (s : ℕ) → Good-label bytes s → label-fault bytes s ≡ None
 label-none bytes s g =
     field-right bytes (label-at bytes s) 4 (ltb (label-in bytes s) (2 ^ name-count bytes)) (at BadEntry (label-at bytes s)) (g .room) (lt-ltb (label-in bytes s) (2 ^ name-count bytes) (g .bits))
 
@@ -135,7 +135,7 @@ good-step bytes i e =
     let t = and-parts (ltb (step-in bytes i .to) n) (in-order bytes i) (f .1) in
     record { room = p .0; from = ltb-true (step-in bytes i .from) n (f .0); to = ltb-true (step-in bytes i .to) n (t .0); order = t .1 }
 
-pub step-none : (bytes : List ℕ) (i : ℕ) → Good-step bytes i → step-fault bytes i ≡ None
+step-none : (bytes : List ℕ) (i : ℕ) → Good-step bytes i → step-fault bytes i ≡ None
 step-none bytes i g =
     let n = state-count bytes in
     field-right bytes (step-at bytes i) 6 (step-right bytes i) (at BadEntry (step-at bytes i)) (g .room)
@@ -145,13 +145,13 @@ step-none bytes i g =
 way-out : (bytes : List ℕ) (s : ℕ) → way-out-fault bytes s ≡ None → some-leave bytes s (step-count bytes) ≡ true
 way-out bytes s e = search needs
 
-way-out-none : (bytes : List ℕ) (s : ℕ) → some-leave bytes s (step-count bytes) ≡ true → way-out-fault bytes s ≡ None
+pub way-out-none : (bytes : List ℕ) (s : ℕ) → some-leave bytes s (step-count bytes) ≡ true → way-out-fault bytes s ≡ None
 way-out-none bytes s e = rw e
 
 end-there : (bytes : List ℕ) → end-fault bytes ≡ None → length bytes ≤ sheet-end bytes
 end-there bytes e = search needs
 
-end-none : (bytes : List ℕ) → length bytes ≤ sheet-end bytes → end-fault bytes ≡ None
+pub end-none : (bytes : List ℕ) → length bytes ≤ sheet-end bytes → end-fault bytes ≡ None
 end-none bytes h = rw (le-ltb (sheet-end bytes) (length bytes) h)
 
 pub faultless : (bytes : List ℕ) → sheet-fault bytes ≡ None → Faultless bytes

@@ -1,6 +1,6 @@
 -- The first of several faults.
 use mathlib.Core.Path.{_≡_, refl, ap, _∙_}
-use mathlib.Core.Bool.{Bool, true, false}
+use mathlib.Core.Bool.{Bool, true}
 use mathlib.Core.List.{List}
 use mathlib.Core.Logic.{inl, inr}
 use Prim.Native.Nat.{ℕ, zero, suc, _+_, _<_, _≤_}
@@ -10,10 +10,8 @@ use borrow.Author.Needs.{needs}
 use lib.ListN.{length}
 use Rattle.std.specs.declared.option.Option.{Option}
 use Rattle.std.specs.declared.option.Option.the-variants.{Some, None}
-use Rattle.std.proofs.shelf.Tests.{cases-lt, le-leb, lt-leb}
+use Rattle.std.proofs.shelf.Tests.{cases-lt, le-leb}
 use Rattle.fault.specs.declared.Fault.{Fault}
-use Rattle.fault.specs.declared.Reason.the-variants.{CutShort}
-use Rattle.fault.specs.Refusals.{at}
 use Rattle.layout.specs.Judging.{_▹_, first-fault, field}
 
 pub then-none : (a b : Option Fault) → (a ▹ b) ≡ None → (a ≡ None) × (b ≡ None)
@@ -31,12 +29,6 @@ field-none bytes o size right f e = (search needs, search needs)
 
 pub field-right : (bytes : List ℕ) (o size : ℕ) (right : Bool) (f : Fault) → o + size ≤ length bytes → right ≡ true → field bytes o size right f ≡ None
 field-right bytes o size right f h e = rw (le-leb (o + size) (length bytes) h, e)
-
-pub field-wrong : (bytes : List ℕ) (o size : ℕ) (right : Bool) (f : Fault) → o + size ≤ length bytes → right ≡ false → field bytes o size right f ≡ Some f
-field-wrong bytes o size right f h e = rw (le-leb (o + size) (length bytes) h, e)
-
-pub field-short : (bytes : List ℕ) (o size : ℕ) (right : Bool) (f : Fault) → length bytes < o + size → field bytes o size right f ≡ Some (at CutShort (length bytes))
-field-short bytes o size right f h = rw (lt-leb (o + size) (length bytes) h)
 
 -- the entries before n have none, nor has this one
 pub first-more : (n : ℕ) (fault : ℕ → Option Fault) → first-fault n fault ≡ None → fault n ≡ None → first-fault (n + 1) fault ≡ None

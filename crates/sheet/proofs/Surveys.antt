@@ -1,6 +1,6 @@
 -- The fault of a sheet, part by part.
 use mathlib.Core.Path.{_≡_, _∙_}
-use mathlib.Core.Bool.{true, cond}
+use mathlib.Core.Bool.{cond}
 use mathlib.Core.List.{List}
 use Prim.Native.Nat.{ℕ, _+_, _<_, _≤_}
 use native.Mathlib.Omega.{arith}
@@ -8,13 +8,14 @@ use lib.Dec.{leb}
 use lib.ListN.{length}
 use Rattle.std.specs.declared.option.Option.{Option}
 use Rattle.std.specs.declared.option.Option.the-variants.{Some, None}
-use Rattle.std.proofs.shelf.Tests.{lt-ltb, le-ltb}
+use Rattle.std.proofs.shelf.Tests.{lt-ltb}
 use Rattle.fault.specs.declared.Fault.{Fault}
 use Rattle.fault.specs.declared.Reason.the-variants.{CutShort, NoWayOut, LeftOver}
 use Rattle.fault.specs.Refusals.{at}
 use Rattle.layout.specs.Fields.{state-count, name-count, step-count, sheet-end}
-use Rattle.layout.specs.Judging.{_▹_, first-fault, header-fault, name-fault, label-fault, step-count-fault, step-fault, some-leave, way-out-fault, end-fault, tail-fault, sheet-fault}
+use Rattle.layout.specs.Judging.{_▹_, first-fault, header-fault, name-fault, label-fault, step-count-fault, step-fault, way-out-fault, end-fault, tail-fault, sheet-fault}
 use Rattle.layout.proofs.Faults.{some-then, none-then, first-here, first-none}
+use Rattle.layout.proofs.Faultless.{way-out-none}
 use Rattle.sheet.specs.Sheets.{Lowest}
 
 -- how the number of steps is judged, by where it stands
@@ -36,24 +37,18 @@ module _ (bytes : List ℕ) where
   ways-from : step-count-fault bytes ≡ None → first-fault (step-count bytes) (step-fault bytes) ≡ None → tail-fault bytes ≡ (first-fault (state-count bytes) (way-out-fault bytes) ▹ end-fault bytes)
   ways-from e s = tail-from e ∙ none-then (first-fault (step-count bytes) (step-fault bytes)) _ s
 
-  left : (s : ℕ) → some-leave bytes s (step-count bytes) ≡ true → way-out-fault bytes s ≡ None
-  left s e = rw e
-
   pub tail-way : (low : ℕ) → step-count-fault bytes ≡ None → first-fault (step-count bytes) (step-fault bytes) ≡ None → Lowest bytes (step-count bytes) low → low < state-count bytes → tail-fault bytes ≡ Some (at NoWayOut low)
   tail-way low e s g h =
       let stuck : way-out-fault bytes low ≡ Some (at NoWayOut low) = rw (g .here) in
-      let before = first-none low (way-out-fault bytes) (λ i b. left i (g .below i b)) in
+      let before = first-none low (way-out-fault bytes) (λ i b. way-out-none bytes i (g .below i b)) in
       ways-from e s ∙ some-then (first-fault (state-count bytes) (way-out-fault bytes)) _ (at NoWayOut low) (first-here (state-count bytes) low (way-out-fault bytes) (at NoWayOut low) h before stuck)
 
   pub tail-end : (low : ℕ) → step-count-fault bytes ≡ None → first-fault (step-count bytes) (step-fault bytes) ≡ None → Lowest bytes (step-count bytes) low → state-count bytes ≤ low → tail-fault bytes ≡ end-fault bytes
   tail-end low e s g h =
-      ways-from e s ∙ none-then (first-fault (state-count bytes) (way-out-fault bytes)) _ (first-none (state-count bytes) (way-out-fault bytes) (λ i b. left i (g .below i (omega arith))))
+      ways-from e s ∙ none-then (first-fault (state-count bytes) (way-out-fault bytes)) _ (first-none (state-count bytes) (way-out-fault bytes) (λ i b. way-out-none bytes i (g .below i (omega arith))))
 
   pub end-over : sheet-end bytes < length bytes → end-fault bytes ≡ Some (at LeftOver (sheet-end bytes))
   end-over h = rw (lt-ltb (sheet-end bytes) (length bytes) h)
-
-  pub end-met : length bytes ≤ sheet-end bytes → end-fault bytes ≡ None
-  end-met h = rw (le-ltb (sheet-end bytes) (length bytes) h)
 
   pub sheet-header : (f : Fault) → header-fault bytes ≡ Some f → sheet-fault bytes ≡ Some f
   unfolding sheet-fault

@@ -20,6 +20,3 @@ refused (Some g) x f e = cc
 
 pub refused-first : {A B : Type 0} (a b : Option Fault) (x : A) (y : B) (f : Fault) → _≡_ {A = Result A Fault} (Err f) (unless a x) → _≡_ {A = Result B Fault} (Err f) (unless (a ▹ b) y)
 refused-first a b x y f e = rw (refused a x f e)
-
-pub refused-next : {B : Type 0} (a b : Option Fault) (y : B) (f : Fault) → a ≡ None → _≡_ {A = Result B Fault} (Err f) (unless b y) → _≡_ {A = Result B Fault} (Err f) (unless (a ▹ b) y)
-refused-next a b y f n e = rw n e

@@ -7,11 +7,12 @@ use Rattle.std.proofs.shelf.Results.{err-from-errBy}
 use Rattle.fault.specs.Refusals.{unless}
 use Rattle.layout.specs.Fields.{u16-at, step-count-at, step-count, sheet-end}
 use Rattle.layout.specs.Judging.{first-fault, step-count-fault, step-fault}
+use Rattle.layout.proofs.Faultless.{end-none}
 use Rattle.sheet.specs.Sheets.{Lowest}
 use Rattle.std.specs.declared.result.Result.{Result}
 use Rattle.std.specs.declared.result.Result.the-variants.{Ok}
 use Rattle.fault.specs.declared.Fault.{Fault}
-use Rattle.sheet.proofs.Surveys.{count-judged, tail-count, tail-steps, tail-way, tail-end, end-over, end-met}
+use Rattle.sheet.proofs.Surveys.{count-judged, tail-count, tail-steps, tail-way, tail-end, end-over}
 use Rattle.sheet.proofs.Unless.{accepted, refused}
 use Rattle.sheet.proofs.survey.tail.Needs as need
 
@@ -63,4 +64,4 @@ returns c =
     let none = passed bytes (c .args .offset) (c .pre .here) (c .in-Continue-complete .ensures tt) in
     let count = counted bytes (c .args .offset) (c .number-count .result) (c .pre .here) (c .number-count .ensures .value) in
     let steps = judged bytes (c .number-count .result) (c .in-Continue-low .low) count (c .in-Continue-low .ensures tt) in
-    rw (tail-end bytes (c .in-Continue-low .low) none (steps .0) (steps .1) (omega (arith, c .pre .states)), end-met bytes (omega (arith, count, c .pre .here)), count)
+    rw (tail-end bytes (c .in-Continue-low .low) none (steps .0) (steps .1) (omega (arith, c .pre .states)), end-none bytes (omega (arith, count, c .pre .here)), count)
