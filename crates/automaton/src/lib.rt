@@ -1,3 +1,5 @@
+#![tactic(auto)]
+
 ghost use Rattle.std.specs.Prelude.{◌≡◌, ℕ, ◌+◌, ◌↔◌, List, if◌then◌else◌, Some, None, nat_le, nat_lt, slice_index};
 ghost use Rattle.machine.specs.Model.{Model};
 ghost use Rattle.logic.specs.Formulas.{Regular, size};

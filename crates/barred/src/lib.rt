@@ -1,3 +1,5 @@
+#![tactic(auto)]
+
 ghost use Rattle.std.specs.Prelude.{◌≡◌, ◌<◌, ◌&&◌, [], ◌∷◌, ◌++◌, take, Some};
 ghost use Rattle.fault.specs.Refusals.{at, unless};
 ghost use Rattle.machine.specs.Model.{Lawful};
@@ -17,7 +19,7 @@ impl<M: Machine> Barred<M> {
     pub fn new(machine: M) -> Barred<M>
         ensures machine { result.machine ≡ machine }
         ensures bars { bars_of result ≡ [] }
-        ensures sound { Lawful (model machine) → Sound (model machine) (bars_of result) }
+        ensures sound { Lawful (M.model machine) → Sound (M.model machine) (bars_of result) }
     {
         Barred {
             machine,
@@ -29,10 +31,10 @@ impl<M: Machine> Barred<M> {
 
     /// Takes away the step between two states, unless it is the only one that is left to its state.
     pub fn bar(&mut self, from: usize, to: usize) -> Result<(), Fault>
-        ensures answer { result ≡ unless (bar_fault (model self.old.machine) (bars_of self.old) from to) tt }
-        ensures bars { bars_of self.new ≡ bar_after (model self.old.machine) (bars_of self.old) from to }
+        ensures answer { result ≡ unless (bar_fault (M.model self.old.machine) (bars_of self.old) from to) tt }
+        ensures bars { bars_of self.new ≡ bar_after (M.model self.old.machine) (bars_of self.old) from to }
         ensures machine { self.new.machine ≡ self.old.machine }
-        ensures sound { Sound (model self.old.machine) (bars_of self.old) → Sound (model self.old.machine) (bars_of self.new) }
+        ensures sound { Sound (M.model self.old.machine) (bars_of self.old) → Sound (M.model self.old.machine) (bars_of self.new) }
     {
         match self.bar_fault(from, to) {
             Some(fault) => Err(fault),
@@ -45,10 +47,10 @@ impl<M: Machine> Barred<M> {
 
     /// Gives a barred step back.
     pub fn unbar(&mut self, from: usize, to: usize) -> Result<(), Fault>
-        ensures answer { result ≡ unless (unbar_fault (model self.old.machine) (bars_of self.old) from to) tt }
-        ensures bars { bars_of self.new ≡ unbar_after (model self.old.machine) (bars_of self.old) from to }
+        ensures answer { result ≡ unless (unbar_fault (M.model self.old.machine) (bars_of self.old) from to) tt }
+        ensures bars { bars_of self.new ≡ unbar_after (M.model self.old.machine) (bars_of self.old) from to }
         ensures machine { self.new.machine ≡ self.old.machine }
-        ensures sound { Sound (model self.old.machine) (bars_of self.old) → Sound (model self.old.machine) (bars_of self.new) }
+        ensures sound { Sound (M.model self.old.machine) (bars_of self.old) → Sound (M.model self.old.machine) (bars_of self.new) }
     {
         match self.unbar_fault(from, to) {
             Some(fault) => Err(fault),
@@ -66,8 +68,8 @@ impl<M: Machine> Barred<M> {
     }
 
     fn bar_fault(&self, from: usize, to: usize) -> Option<Fault>
-        ensures lawful { Lawful (model self.now.machine) }
-        ensures value { result ≡ bar_fault (model self.now.machine) (bars_of self.now) from to }
+        ensures lawful { Lawful (M.model self.now.machine) }
+        ensures value { result ≡ bar_fault (M.model self.now.machine) (bars_of self.now) from to }
     {
         let states = self.machine.states();
         let bars = self.barred_steps();
@@ -87,8 +89,8 @@ impl<M: Machine> Barred<M> {
     }
 
     fn unbar_fault(&self, from: usize, to: usize) -> Option<Fault>
-        ensures lawful { Lawful (model self.now.machine) }
-        ensures value { result ≡ unbar_fault (model self.now.machine) (bars_of self.now) from to }
+        ensures lawful { Lawful (M.model self.now.machine) }
+        ensures value { result ≡ unbar_fault (M.model self.now.machine) (bars_of self.now) from to }
     {
         let states = self.machine.states();
         if from >= states {
@@ -125,7 +127,7 @@ impl<M: Machine> Barred<M> {
     }
 
     fn hides(&self, from: usize, to: usize) -> bool
-        ensures { result ≡ (is_barred (bars_of self.now) from to && has_open (model self.now.machine) (bars_of self.now) from) }
+        ensures { result ≡ (is_barred (bars_of self.now) from to && has_open (M.model self.now.machine) (bars_of self.now) from) }
     {
         if from >= 1024 || !self.touched[from] {
             return false;

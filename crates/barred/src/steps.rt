@@ -59,13 +59,13 @@ pub(crate) fn other_bars(bars: &[(u16, u16)], from: usize, to: usize) -> ([(u16,
 }
 
 pub(crate) fn is_open<M: Machine>(machine: &M, bars: &[(u16, u16)], from: usize, to: usize) -> bool
-    ensures { result ≡ is_open (model machine.now) bars.now from to }
+    ensures { result ≡ is_open (M.model machine.now) bars.now from to }
 {
     machine.step(from, to).is_some() && !is_barred(bars, from, to)
 }
 
 pub(crate) fn has_open<M: Machine>(machine: &M, bars: &[(u16, u16)], from: usize) -> bool
-    ensures { result ≡ has_open (model machine.now) bars.now from }
+    ensures { result ≡ has_open (M.model machine.now) bars.now from }
 {
     for to in 0..machine.states() {
         if is_open(machine, bars, from, to) {
@@ -82,7 +82,7 @@ pub(crate) fn has_other<M: Machine>(
     from: usize,
     to: usize,
 ) -> bool
-    ensures { result ≡ has_other (model machine.now) bars.now from to }
+    ensures { result ≡ has_other (M.model machine.now) bars.now from to }
 {
     for other in 0..machine.states() {
         if other != to && is_open(machine, bars, from, other) {

@@ -1,3 +1,5 @@
+#![tactic(auto)]
+
 ghost use Rattle.std.specs.Prelude.{◌≡◌};
 ghost use Rattle.layout.specs.Judging.{sheet_model};
 ghost use Rattle.machine.specs.Model.{among};
@@ -20,7 +22,7 @@ fn next_number(x: u64) -> u64
 
 /// Asks a machine for many steps, and adds their seconds up.
 fn ask<M: Machine>(machine: &M, count: usize, seed: u64) -> u64
-    ensures { result ≡ asked_of (model machine.now) count seed }
+    ensures { result ≡ asked_of (M.model machine.now) count seed }
 {
     let states = machine.states() as u64;
     if states == 0 {

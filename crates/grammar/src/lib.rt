@@ -1,3 +1,5 @@
+#![tactic(auto)]
+
 // The grammar of rule texts: definitions and theorems; of code only what a word is made of.
 use logic::{Cycle, Quantifier};
 

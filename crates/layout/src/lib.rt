@@ -1,1 +1,3 @@
+#![tactic(auto)]
+
 // The layout of mode sheets: definitions and theorems, and no code.

@@ -1,3 +1,5 @@
+#![tactic(auto)]
+
 ghost use Rattle.logic.specs.Positions.{Spelled, Ends};
 
 /// The four operators that speak of a path's states after a match.

@@ -1,3 +1,5 @@
+#![tactic(auto)]
+
 ghost use Rattle.std.specs.Prelude.{◌≡◌, ◌+◌, ◌*◌, true, false, length, Some, None};
 ghost use Rattle.machine.specs.Model.{Lawful};
 ghost use Rattle.pair.specs.Pairs.{fewer, fits, pair_model};

@@ -5,7 +5,7 @@ use machine::Machine;
 
 /// How many steps leave a state.
 fn steps_out<M: Machine>(machine: &M, state: usize) -> usize
-    ensures value { result ≡ steps_out (model machine.now) state }
+    ensures value { result ≡ steps_out (M.model machine.now) state }
     ensures bound { result ≤ 1024 }
 {
     let mut count = 0;
@@ -19,7 +19,7 @@ fn steps_out<M: Machine>(machine: &M, state: usize) -> usize
 
 /// How many steps a machine has.
 pub(crate) fn all_steps<M: Machine>(machine: &M) -> usize
-    ensures { result ≡ all_steps (model machine.now) }
+    ensures { result ≡ all_steps (M.model machine.now) }
 {
     let mut count = 0;
     for state in 0..machine.states() {

@@ -44,7 +44,7 @@ impl Draft {
     }
 
     /// state = conj { or conj }
-    #[cycle(alternatives_base_bracketed_conjunction_cycle_disjunction_negation_path_sequence_starred_unary)]
+    #[cycle(descent)]
     pub(crate) fn disjunction<'a>(&mut self, text: &'a [u8]) -> Result<&'a [u8], Fault>
         requires { Suffix text.now (whole self.old) }
         ensures { MatchResult result (λ m. ReadFormula State (phrase ands ∷ phrase ors ∷ []) self.old self.new text.now m.now) (Fails state self.old text.now) }
@@ -60,7 +60,7 @@ impl Draft {
     }
 
     /// conj = unary { and unary }
-    #[cycle(alternatives_base_bracketed_conjunction_cycle_disjunction_negation_path_sequence_starred_unary)]
+    #[cycle(descent)]
     fn conjunction<'a>(&mut self, text: &'a [u8]) -> Result<&'a [u8], Fault>
         requires { Suffix text.now (whole self.old) }
         ensures { MatchResult result (λ m. ReadFormula Conj (phrase ands ∷ []) self.old self.new text.now m.now) (Fails conj self.old text.now) }
@@ -76,7 +76,7 @@ impl Draft {
     }
 
     /// unary = not unary | quantifier [ reg ] unary | cycle [ reg ] | atom | ( state )
-    #[cycle(alternatives_base_bracketed_conjunction_cycle_disjunction_negation_path_sequence_starred_unary)]
+    #[cycle(descent)]
     fn unary<'a>(&mut self, text: &'a [u8]) -> Result<&'a [u8], Fault>
         requires { Suffix text.now (whole self.old) }
         ensures { MatchResult result (λ m. ReadFormula Unary [] self.old self.new text.now m.now) (Fails single self.old text.now) }
@@ -112,7 +112,7 @@ impl Draft {
     }
 
     /// What stands behind a `not`.
-    #[cycle(alternatives_base_bracketed_conjunction_cycle_disjunction_negation_path_sequence_starred_unary)]
+    #[cycle(descent)]
     fn negation<'a>(&mut self, text: &'a [u8]) -> Result<&'a [u8], Fault>
         requires tail { Suffix text.now (whole self.old) }
         requires room { self.old.count < self.old.seen }
@@ -125,7 +125,7 @@ impl Draft {
     }
 
     /// What stands behind the word of a path operator.
-    #[cycle(alternatives_base_bracketed_conjunction_cycle_disjunction_negation_path_sequence_starred_unary)]
+    #[cycle(descent)]
     fn path<'a>(&mut self, quantifier: Quantifier, text: &'a [u8]) -> Result<&'a [u8], Fault>
         requires tail { Suffix text.now (whole self.old) }
         requires room { self.old.count < self.old.seen }
@@ -140,7 +140,7 @@ impl Draft {
     }
 
     /// What stands behind the word of a cycle operator.
-    #[cycle(alternatives_base_bracketed_conjunction_cycle_disjunction_negation_path_sequence_starred_unary)]
+    #[cycle(descent)]
     fn cycle<'a>(&mut self, cycle: Cycle, text: &'a [u8]) -> Result<&'a [u8], Fault>
         requires tail { Suffix text.now (whole self.old) }
         requires room { self.old.count < self.old.seen }
@@ -153,7 +153,7 @@ impl Draft {
     }
 
     /// [ reg ], with no letters before it
-    #[cycle(alternatives_base_bracketed_conjunction_cycle_disjunction_negation_path_sequence_starred_unary)]
+    #[cycle(descent)]
     fn bracketed<'a>(&mut self, text: &'a [u8], letters: &mut Letters) -> Result<Grown<'a>, Fault>
         requires tail { Suffix text.now (whole self.old) }
         requires none { letters.old.count ≡ 0 }
@@ -169,7 +169,7 @@ impl Draft {
     }
 
     /// reg = seq { | seq }
-    #[cycle(alternatives_base_bracketed_conjunction_cycle_disjunction_negation_path_sequence_starred_unary)]
+    #[cycle(descent)]
     fn alternatives<'a>(
         &mut self,
         text: &'a [u8],
@@ -190,7 +190,7 @@ impl Draft {
     }
 
     /// seq = star { . star }
-    #[cycle(alternatives_base_bracketed_conjunction_cycle_disjunction_negation_path_sequence_starred_unary)]
+    #[cycle(descent)]
     fn sequence<'a>(&mut self, text: &'a [u8], letters: &mut Letters) -> Result<Grown<'a>, Fault>
         requires { Suffix text.now (whole self.old) }
         ensures { MatchResult result (λ g. ReadRegular Seq (phrase asts ∷ phrase dots ∷ []) self.old self.new letters.old letters.new text.now g.rest.now g.piece) (FailsRegular seq self.old letters.old text.now) }
@@ -207,7 +207,7 @@ impl Draft {
     }
 
     /// star = base { * }
-    #[cycle(alternatives_base_bracketed_conjunction_cycle_disjunction_negation_path_sequence_starred_unary)]
+    #[cycle(descent)]
     fn starred<'a>(&mut self, text: &'a [u8], letters: &mut Letters) -> Result<Grown<'a>, Fault>
         requires { Suffix text.now (whole self.old) }
         ensures { MatchResult result (λ g. ReadRegular Starred (phrase asts ∷ []) self.old self.new letters.old letters.new text.now g.rest.now g.piece) (FailsRegular repeated self.old letters.old text.now) }
@@ -223,7 +223,7 @@ impl Draft {
     }
 
     /// base = letter | ( reg ), letter = atom | { state }
-    #[cycle(alternatives_base_bracketed_conjunction_cycle_disjunction_negation_path_sequence_starred_unary)]
+    #[cycle(descent)]
     fn base<'a>(&mut self, text: &'a [u8], letters: &mut Letters) -> Result<Grown<'a>, Fault>
         requires { Suffix text.now (whole self.old) }
         ensures { MatchResult result (λ g. ReadRegular Base ([]) self.old self.new letters.old letters.new text.now g.rest.now g.piece) (FailsRegular simple self.old letters.old text.now) }

@@ -39,7 +39,7 @@ fn comes_first(place: usize, fault: Fault) -> bool
 
 /// Reads a rule for a machine, or says which fault of the text comes first.
 pub fn read<M: Machine>(text: &[u8], machine: &M) -> Result<Rule, Fault>
-    ensures { MatchResult result (Taken (among (model machine.now).names) text.now) (Denied (among (model machine.now).names) text.now) }
+    ensures { MatchResult result (Taken (among (M.model machine.now).names) text.now) (Denied (among (M.model machine.now).names) text.now) }
 {
     if text.len() > 255 {
         return Err(Fault {

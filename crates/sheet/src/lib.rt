@@ -1,3 +1,5 @@
+#![tactic(auto)]
+
 mod examination;
 mod field;
 mod opened;

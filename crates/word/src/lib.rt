@@ -1,3 +1,5 @@
+#![tactic(auto)]
+
 ghost use Rattle.std.specs.Prelude.{◌≡◌, ◌≤◌, length};
 ghost use Rattle.grammar.specs.Judging.{first_unknown};
 ghost use Rattle.grammar.specs.Words.{sign_of, operator_of, key_of, run, skip, read, text_of};
@@ -119,7 +121,7 @@ pub fn read_word<'a>(text: &'a [u8]) -> Option<(Token<'a>, &'a [u8])>
 
 /// The place of the first name in a text that the machine does not know.
 pub fn first_unknown<M: Machine>(text: &[u8], machine: &M) -> Option<usize>
-    ensures { result ≡ first_unknown (among (model machine.now).names) (text_of text.now) }
+    ensures { result ≡ first_unknown (among (M.model machine.now).names) (text_of text.now) }
 {
     let mut rest = skip_gaps(text);
     while let Some((token, next)) = read_word(rest) {

@@ -13,9 +13,9 @@ loop-preserved g c =
     let n = c.args.count - (c.loop.counter + 1) in
     let x = c.loop.x in
     let here : c.from-total.result ≡ answer m x =
-    c.from-total.ensures ∙ c.unwrap-or-seconds.ensures ∙ ap (λ o. unwrap_or o 0) c.step.ensures
+    c.from-total.ensures ∙ c.unwrap_or-seconds.ensures ∙ ap (λ o. unwrap_or o 0) c.step.ensures
     ∙ ap (λ k. unwrap_or (m.step (x / 2 ^ 20 % k) (x / 2 ^ 40 % k)) 0) c.states-states.ensures.value in
-    ap (λ y. asked m n y ((c.loop.total + c.from-total.result) % 2 ^ 64)) c.next-number-x.ensures
+    ap (λ y. asked m n y ((c.loop.total + c.from-total.result) % 2 ^ 64)) c.next_number-x.ensures
     ∙ ap (λ a. asked m n (next x) ((c.loop.total + a) % 2 ^ 64)) here
     ∙ sym (asked_once m c.args.count c.loop.counter x c.loop.total (omega arith)) ∙ c.loop.invariant
 

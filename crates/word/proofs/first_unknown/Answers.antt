@@ -5,12 +5,12 @@ use Rattle.grammar.specs.Judging.{first_unknown}
 use Rattle.word.specs.Tokens.{word_of}
 use Rattle.word.proofs.Lookups.{Looked, looked_none, looked_less, looked_more, past_known, past_other, looked_found, looked_all}
 use Rattle.word.proofs.first_unknown.Goals as goal
-use Rattle.word.proofs.first_unknown.Goals.{in-Name+else-not-knows, in-default-token}
+use Rattle.word.proofs.first_unknown.Goals.{in-Name+else-not-knows, in_default-token}
 
 pub loop-token-init : goal.loop-token-init
 loop-token-init g c =
     let known = among (g.M.Machine.model c.args.machine.now).names in
-    subst (Looked known c.args.text.now) (sym c.skip-gaps-rest.ensures.value) (looked_none known c.args.text.now)
+    subst (Looked known c.args.text.now) (sym c.skip_gaps-rest.ensures.value) (looked_none known c.args.text.now)
 
 pub returns-then-not-knows : goal.returns-then-not-knows
 returns-then-not-knows g c =
@@ -19,19 +19,19 @@ returns-then-not-knows g c =
 pub loop-token-smaller : goal.loop-token-smaller
 loop-token-smaller g c =
     let known = among (g.M.Machine.model c.args.machine.now).names in
-    subst (λ m. length m < length c.loop-token.rest.now) (sym c.skip-gaps-rest-in-Some.ensures.value)
+    subst (λ m. length m < length c.loop-token.rest.now) (sym c.skip_gaps-rest-in-Some.ensures.value)
     (looked_less known c.args.text.now c.loop-token.rest.now c.loop-token.invariant (word_of c.in-Some.token) c.in-Some.next.now (sym c.in-Some.ensures))
 
 pub loop-token-preserved : goal.loop-token-preserved
 loop-token-preserved g c =
     let known = among (g.M.Machine.model c.args.machine.now).names in
-    subst (Looked known c.args.text.now) (sym c.skip-gaps-rest-in-Some.ensures.value)
+    subst (Looked known c.args.text.now) (sym c.skip_gaps-rest-in-Some.ensures.value)
     (looked_more known c.args.text.now c.loop-token.rest.now c.loop-token.invariant (word_of c.in-Some.token) c.in-Some.next.now (sym c.in-Some.ensures)
     (elim c.match-token.branch [
       | in-Name+else-not-knows w ↦ subst (λ x. (t : Text) → first_unknown known (word (length c.args.text.now - length c.loop-token.rest.now) (word_of x) t) ≡ first_unknown known t) (sym w.in-Name.is)
           (past_known known c.args.text.now c.loop-token.rest.now c.loop-token.invariant w.in-Name.word.now (sym w.if-not-knows.ensures))
-      | in-default-token w ↦ past_other known c.args.text.now c.loop-token.rest.now c.loop-token.invariant c.in-Some.token w.in-default-token.not-Name
+      | in_default-token w ↦ past_other known c.args.text.now c.loop-token.rest.now c.loop-token.invariant c.in-Some.token w.in_default-token.not-Name
     ]))
 
 pub returns : goal.returns
-returns g c = sym (looked_all _ c.args.text.now c.loop-token.rest.now c.loop-token.invariant (sym c.in-default.ensures))
+returns g c = sym (looked_all _ c.args.text.now c.loop-token.rest.now c.loop-token.invariant (sym c.in_default.ensures))

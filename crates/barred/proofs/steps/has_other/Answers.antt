@@ -3,9 +3,9 @@ use Rattle.barred.specs.Bars.{has_other, is_open}
 use Rattle.barred.proofs.Below.{some_below_true, some_below_more, some_below_all}
 use Rattle.barred.proofs.steps.has_other.Goals as goal
 
-pub returns-then-is-open : goal.returns-then-is-open
+pub returns-then-is_open : goal.returns-then-is_open
 unfolding has_other
-returns-then-is-open g c =
+returns-then-is_open g c =
     let m = g.M.Machine.model c.args.machine.now in
     sym (some_below_true m.states c.loop-other.other (λ u. is_open m c.args.bars.now c.args.from u && not (eqb u c.args.to)) (search rules) (search rules))
 

@@ -3,8 +3,8 @@ use Rattle.std.proofs.lemmas.List.{at_drop_all, at_drop_more}
 use Rattle.barred.specs.Bars.{is_barred}
 use Rattle.barred.proofs.steps.is_barred.Goals as goal
 
-pub returns-then-is-step : goal.returns-then-is-step
-returns-then-is-step c =
+pub returns-then-is_step : goal.returns-then-is_step
+returns-then-is_step c =
     let e = at_drop_more (λ bars. is_barred bars c.args.from c.args.to) c.args.bars.now c.loop-bar.bar-index (0, 0) (omega arith) in
     search rules
 

@@ -6,7 +6,7 @@ use Rattle.podsjeal.proofs.count.all_steps.Goals as goal
 pub loop-state-preserved : goal.loop-state-preserved
 loop-state-preserved g c =
     let m = g.M.Machine.model c.args.machine.now in
-    (omega (arith, c.steps-out-count.ensures.bound), omega (arith, sum_more c.loop-state.state (steps_out m), c.steps-out-count.ensures.value))
+    (omega (arith, c.steps_out-count.ensures.bound), omega (arith, sum_more c.loop-state.state (steps_out m), c.steps_out-count.ensures.value))
 
 pub returns : goal.returns
 unfolding all_steps

@@ -6,8 +6,8 @@ use Rattle.report.proofs.line.split_line.Goals as goal
 pub returns-then-end-bytes : goal.returns-then-end-bytes
 returns-then-end-bytes c =
     let bs = c.args.bytes.now in
-    let n = c.line-end-end.result in
-    let e = c.line-end-end.ensures in
+    let n = c.line_end-end.result in
+    let e = c.line_end-end.ensures in
     let ends : Ends bs n = record { within = e.within; before = e.before; found = e.found } in
     let none : drop n bs ≡ [] = drop_all n bs (omega (arith, c.if-end-bytes.true)) in
     let gone : drop (n + 1) bs ≡ [] = drop_all (n + 1) bs (omega (arith, c.if-end-bytes.true)) in
@@ -21,8 +21,8 @@ returns-then-end-bytes c =
 pub returns : goal.returns
 returns c =
     let bs = c.args.bytes.now in
-    let n = c.line-end-end.result in
-    let e = c.line-end-end.ensures in
+    let n = c.line_end-end.result in
+    let e = c.line_end-end.ensures in
     let ends : Ends bs n = record { within = e.within; before = e.before; found = e.found } in
     let left = take_rest bs (n + 1) ∙ (ap (λ k. drop k bs) (add-one n) ∙ behind_is bs n ends) in
     record {

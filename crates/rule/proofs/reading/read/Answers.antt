@@ -10,24 +10,24 @@ use Rattle.rule.specs.Parsing.{ReadWhole}
 use Rattle.rule.proofs.Wholes.{taken, wrong_text, wrong_name, wrong_both}
 use Rattle.rule.proofs.reading.read.Goals as goal
 
-pub returns-in-default : goal.returns-in-default
-returns-in-default g c =
+pub returns-in_default : goal.returns-in_default
+returns-in_default g c =
     let known = among (g.M.Machine.model c.args.machine.now).names in
     let l = c.args.text.now in
     MatchResult-weaker c.parse-parsed.result {P = ReadWhole l} {P' = Taken known l} {Q = λ f. judge start (text_of l) ≡ Some f} {Q' = Denied known l} c.parse-parsed.ensures
-    (λ k r. taken known l c.if-text-gt255.false k r (sym c.in-default.ensures)) (λ f e. wrong_text known l c.if-text-gt255.false f e (sym c.in-default.ensures))
+    (λ k r. taken known l c.if-text-gt255.false k r (sym c.in_default.ensures)) (λ f e. wrong_text known l c.if-text-gt255.false f e (sym c.in_default.ensures))
 
 pub returns-in-Ok : goal.returns-in-Ok
 returns-in-Ok g c = wrong_name _ c.args.text.now c.if-text-gt255.false c.in-Ok.field-0 c.in-Ok.ensures c.in-Some.place (sym c.in-Some.ensures)
 
-pub returns-then-comes-first : goal.returns-then-comes-first
-returns-then-comes-first g c =
+pub returns-then-comes_first : goal.returns-then-comes_first
+returns-then-comes_first g c =
     let f = c.in-Err.fault in
     let p = c.in-Some.place in
-    wrong_both _ c.args.text.now c.if-text-gt255.false f p (at UnknownName p) c.in-Err.ensures (sym c.in-Some.ensures) (ap (λ b. cond b (Some (at UnknownName p)) (Some f)) (sym c.if-comes-first.ensures))
+    wrong_both _ c.args.text.now c.if-text-gt255.false f p (at UnknownName p) c.in-Err.ensures (sym c.in-Some.ensures) (ap (λ b. cond b (Some (at UnknownName p)) (Some f)) (sym c.if-comes_first.ensures))
 
-pub returns-else-comes-first : goal.returns-else-comes-first
-returns-else-comes-first g c =
+pub returns-else-comes_first : goal.returns-else-comes_first
+returns-else-comes_first g c =
     let f = c.in-Err.fault in
     let p = c.in-Some.place in
-    wrong_both _ c.args.text.now c.if-text-gt255.false f p f c.in-Err.ensures (sym c.in-Some.ensures) (ap (λ b. cond b (Some (at UnknownName p)) (Some f)) (sym c.if-comes-first.ensures))
+    wrong_both _ c.args.text.now c.if-text-gt255.false f p f c.in-Err.ensures (sym c.in-Some.ensures) (ap (λ b. cond b (Some (at UnknownName p)) (Some f)) (sym c.if-comes_first.ensures))

@@ -8,11 +8,11 @@ use Rattle.sheet.specs.Sheets.{shape_in}
 use Rattle.sheet.proofs.Unless.{accepted, refused}
 use Rattle.sheet.proofs.examination.examine.Goals as goal
 
-pub returns-in-err-survey : goal.returns-in-err-survey
-returns-in-err-survey c =
+pub returns-in_err-survey : goal.returns-in_err-survey
+returns-in_err-survey c =
     let bytes = c.args.bytes.now in
-    let p = err_from_is_err_and c.from-residual.result c.from-residual.ensures.1 in
-    let f = refused (sheet_fault bytes) (shape_in bytes) _ c.in-err-survey.ensures in
+    let p = err_from_is_err_and c.from_residual.result c.from_residual.ensures.1 in
+    let f = refused (sheet_fault bytes) (shape_in bytes) _ c.in_err-survey.ensures in
     record {
       fault = rw (p.1, p.2, f);
       encodes = λ e. absurd (false≢true (sym (ap {A = Result (Unit {0}) Fault} is_ok p.1) ∙ e));
@@ -22,5 +22,5 @@ returns-in-err-survey c =
 pub returns : goal.returns
 returns c =
     let bytes = c.args.bytes.now in
-    let none = (accepted (sheet_fault bytes) (shape_in bytes) _ c.in-ok-survey.ensures).0 in
-    record { fault = rw none; encodes = λ _. faultless_encodes bytes (λ i. omega (arith, c.type-inv.bytes i)) none; accepts = λ d q e. refl }
+    let none = (accepted (sheet_fault bytes) (shape_in bytes) _ c.in_ok-survey.ensures).0 in
+    record { fault = rw none; encodes = λ _. faultless_encodes bytes (λ i. omega (arith, c.type_inv.bytes i)) none; accepts = λ d q e. refl }

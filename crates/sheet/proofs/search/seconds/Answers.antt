@@ -5,32 +5,32 @@ use Rattle.sheet.specs.Sheets.{sought}
 use Rattle.sheet.proofs.Sought.{step_room, step_same, below_more, above_more, found, not_found}
 use Rattle.sheet.proofs.search.seconds.Goals as goal
 
-pub overflow-add-offset : goal.overflow-add-offset
-overflow-add-offset c =
+pub overflow_add-offset : goal.overflow_add-offset
+overflow_add-offset c =
     let r = step_room c.args.bytes.now c.requires.right c.args.count c.requires.count c.args.steps c.halfway-middle.result c.requires.steps (omega (arith, c.halfway-middle.ensures)) in
     search rules
 
-pub is-before-requires : goal.is-before-requires
-is-before-requires c =
+pub is_before-requires : goal.is_before-requires
+is_before-requires c =
     step_room c.args.bytes.now c.requires.right c.args.count c.requires.count c.args.steps c.halfway-middle.result c.requires.steps (omega (arith, c.halfway-middle.ensures))
 
-pub loop-low-preserved-then-is-before : goal.loop-low-preserved-then-is-before
-loop-low-preserved-then-is-before c =
+pub loop-low-preserved-then-is_before : goal.loop-low-preserved-then-is_before
+loop-low-preserved-then-is_before c =
     let bytes = c.args.bytes.now in
     let same = step_same bytes c.requires.right c.args.count c.requires.count c.args.steps c.halfway-middle.result c.requires.steps in
-    let before = ap (λ (e : Step). precedes e (sought c.args.from c.args.to)) (sym same) ∙ sym c.if-is-before.ensures in (
+    let before = ap (λ (e : Step). precedes e (sought c.args.from c.args.to)) (sym same) ∙ sym c.if-is_before.ensures in (
       omega (arith, c.halfway-middle.ensures),
       c.loop-low.invariant.1,
       below_more bytes c.requires.right c.args.count c.requires.count c.halfway-middle.result c.args.from c.args.to (omega (arith, c.halfway-middle.ensures)) before,
       c.loop-low.invariant.3,
     )
 
-pub is-there-requires : goal.is-there-requires
-is-there-requires c =
+pub is_there-requires : goal.is_there-requires
+is_there-requires c =
     step_room c.args.bytes.now c.requires.right c.args.count c.requires.count c.args.steps c.halfway-middle.result c.requires.steps (omega (arith, c.halfway-middle.ensures))
 
-pub overflow-add-offset-then-is-there : goal.overflow-add-offset-then-is-there
-overflow-add-offset-then-is-there c =
+pub overflow_add-offset-then-is_there : goal.overflow_add-offset-then-is_there
+overflow_add-offset-then-is_there c =
     let r = step_room c.args.bytes.now c.requires.right c.args.count c.requires.count c.args.steps c.halfway-middle.result c.requires.steps (omega (arith, c.halfway-middle.ensures)) in
     search rules
 
@@ -39,13 +39,13 @@ number-requires c =
     let r = step_room c.args.bytes.now c.requires.right c.args.count c.requires.count c.args.steps c.halfway-middle.result c.requires.steps (omega (arith, c.halfway-middle.ensures)) in
     omega arith
 
-pub returns-then-is-there : goal.returns-then-is-there
-returns-then-is-there c =
+pub returns-then-is_there : goal.returns-then-is_there
+returns-then-is_there c =
     let bytes = c.args.bytes.now in
     let m = c.halfway-middle.result in
     let same = step_same bytes c.requires.right c.args.count c.requires.count c.args.steps m c.requires.steps in
-    let here = ap (λ (e : Step). eqb e.from c.args.from && eqb e.to c.args.to) (sym same) ∙ sym c.if-is-there.ensures in
-    let hit = found bytes c.requires.right c.args.count c.requires.count (λ i. omega (arith, c.type-inv.bytes i)) m c.args.from c.args.to (omega (arith, c.halfway-middle.ensures)) here in
+    let here = ap (λ (e : Step). eqb e.from c.args.from && eqb e.to c.args.to) (sym same) ∙ sym c.if-is_there.ensures in
+    let hit = found bytes c.requires.right c.args.count c.requires.count (λ i. omega (arith, c.type_inv.bytes i)) m c.args.from c.args.to (omega (arith, c.halfway-middle.ensures)) here in
     ap Some (c.number.ensures.value ∙ ap (λ (e : Step). e.seconds) same) ∙ sym hit
 
 pub loop-low-preserved : goal.loop-low-preserved
@@ -53,8 +53,8 @@ loop-low-preserved c =
     let bytes = c.args.bytes.now in
     let m = c.halfway-middle.result in
     let same = step_same bytes c.requires.right c.args.count c.requires.count c.args.steps m c.requires.steps in
-    let before = ap (λ (e : Step). precedes e (sought c.args.from c.args.to)) (sym same) ∙ sym c.if-is-before.ensures in
-    let here = ap (λ (e : Step). eqb e.from c.args.from && eqb e.to c.args.to) (sym same) ∙ sym c.if-is-there.ensures in (
+    let before = ap (λ (e : Step). precedes e (sought c.args.from c.args.to)) (sym same) ∙ sym c.if-is_before.ensures in
+    let here = ap (λ (e : Step). eqb e.from c.args.from && eqb e.to c.args.to) (sym same) ∙ sym c.if-is_there.ensures in (
       omega (arith, c.halfway-middle.ensures),
       omega (arith, c.halfway-middle.ensures),
       c.loop-low.invariant.2,

@@ -13,6 +13,6 @@ returns c =
     let i = c.args.i in
     let o = c.args.offset in
     let room : o + 1 + byte_at bytes o ≤ length bytes = search rules in
-    let right = ap (λ w. is_name w && not (among (map (name_in bytes) (range_with_len 0 i)) w)) (sym c.word-there.ensures.value) ∙ sym c.if-not-is-new-name.ensures in
+    let right = ap (λ w. is_name w && not (among (map (name_in bytes) (range_with_len 0 i)) w)) (sym c.word_there.ensures.value) ∙ sym c.if-not-is_new_name.ensures in
     let none = name_passes bytes i o c.requires.here (omega arith) (omega arith) room right in
     rw (none, name_at_next bytes i, ← c.requires.here)

@@ -8,24 +8,24 @@ pub loop-init : goal.loop-init
 unfolding name_at
 loop-init c = refl
 
-pub overflow-add-offset : goal.overflow-add-offset
-overflow-add-offset c =
+pub overflow_add-offset : goal.overflow_add-offset
+overflow_add-offset c =
     let r = name_room c.args.bytes.now c.args.i c.loop.counter c.loop.offset c.requires (omega arith) c.loop.invariant in
     search rules
 
-pub word-there-requires : goal.word-there-requires
-word-there-requires c = name_room c.args.bytes.now c.args.i c.loop.counter c.loop.offset c.requires (omega arith) c.loop.invariant
+pub word_there-requires : goal.word_there-requires
+word_there-requires c = name_room c.args.bytes.now c.args.i c.loop.counter c.loop.offset c.requires (omega arith) c.loop.invariant
 
-pub overflow-add-offset-in-loop : goal.overflow-add-offset-in-loop
-overflow-add-offset-in-loop c =
+pub overflow_add-offset-in-loop : goal.overflow_add-offset-in-loop
+overflow_add-offset-in-loop c =
     let r = name_room c.args.bytes.now c.args.i c.loop.counter c.loop.offset c.requires (omega arith) c.loop.invariant in
-    let l = c.word-there.ensures.len in
+    let l = c.word_there.ensures.len in
     search rules
 
 pub loop-preserved : goal.loop-preserved
 loop-preserved c =
     let e = c.loop.invariant in
-    rw (name_at_next c.args.bytes.now c.loop.counter, ← e) (omega (arith, c.word-there.ensures.len))
+    rw (name_at_next c.args.bytes.now c.loop.counter, ← e) (omega (arith, c.word_there.ensures.len))
 
 pub returns : goal.returns
 returns c = let e : c.loop.counter ≡ c.args.i = omega arith in c.loop.invariant ∙ ap (name_at c.args.bytes.now) e

@@ -18,28 +18,28 @@ pub loop-i-init : goal.loop-i-init
 unfolding name_at
 loop-i-init c = (refl, refl)
 
-pub word-there-name-requires : goal.word-there-name-requires
-word-there-name-requires c = name_room c.args.bytes.now c.args.count c.loop-i.i c.loop-i.offset c.requires (omega arith) c.loop-i.invariant.0
+pub word_there-name-requires : goal.word_there-name-requires
+word_there-name-requires c = name_room c.args.bytes.now c.args.count c.loop-i.i c.loop-i.offset c.requires (omega arith) c.loop-i.invariant.0
 
-pub overflow-add-offset : goal.overflow-add-offset
-overflow-add-offset c =
+pub overflow_add-offset : goal.overflow_add-offset
+overflow_add-offset c =
     let r = name_room c.args.bytes.now c.args.count c.loop-i.i c.loop-i.offset c.requires (omega arith) c.loop-i.invariant.0 in
     search rules
 
-pub overflow-add-offset-in-loop-i : goal.overflow-add-offset-in-loop-i
-overflow-add-offset-in-loop-i c =
+pub overflow_add-offset-in-loop-i : goal.overflow_add-offset-in-loop-i
+overflow_add-offset-in-loop-i c =
     let r = name_room c.args.bytes.now c.args.count c.loop-i.i c.loop-i.offset c.requires (omega arith) c.loop-i.invariant.0 in
-    let l = c.word-there-name.ensures.len in
+    let l = c.word_there-name.ensures.len in
     search rules
 
-pub returns-then-same-word : goal.returns-then-same-word
-returns-then-same-word c =
+pub returns-then-same_word : goal.returns-then-same_word
+returns-then-same_word c =
     let bytes = c.args.bytes.now in
     let names = map (name_in bytes) (range_with_len 0 c.args.count) in
     let lt : c.loop-i.i < c.args.count = omega arith in
     let here = name_there bytes c.args.count c.loop-i.i c.loop-i.offset lt c.loop-i.invariant.0 in
     sym (place_here names c.loop-i.i c.args.word.now (omega (arith, length-map-range_with_len (name_in bytes) 0 c.args.count)) c.loop-i.invariant.1
-    (ap (λ w. bytes_eq w c.args.word.now) (here ∙ sym c.word-there-name.ensures.value) ∙ sym c.if-same-word.ensures))
+    (ap (λ w. bytes_eq w c.args.word.now) (here ∙ sym c.word_there-name.ensures.value) ∙ sym c.if-same_word.ensures))
 
 pub loop-i-preserved : goal.loop-i-preserved
 loop-i-preserved c =
@@ -49,9 +49,9 @@ loop-i-preserved c =
     let here = name_there bytes c.args.count c.loop-i.i c.loop-i.offset lt c.loop-i.invariant.0 in
     let e = c.loop-i.invariant.0 in
     let next = name_at_next bytes c.loop-i.i in (
-      rw (next, ← e) (omega (arith, c.word-there-name.ensures.len)),
+      rw (next, ← e) (omega (arith, c.word_there-name.ensures.len)),
       place_next names c.loop-i.i c.args.word.now (omega (arith, length-map-range_with_len (name_in bytes) 0 c.args.count)) c.loop-i.invariant.1
-          (ap (λ w. bytes_eq w c.args.word.now) (here ∙ sym c.word-there-name.ensures.value) ∙ sym c.if-same-word.ensures),
+          (ap (λ w. bytes_eq w c.args.word.now) (here ∙ sym c.word_there-name.ensures.value) ∙ sym c.if-same_word.ensures),
     )
 
 pub returns : goal.returns

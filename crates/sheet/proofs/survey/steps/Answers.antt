@@ -13,19 +13,19 @@ pub loop-i-init : goal.loop-i-init
 unfolding first_fault some_leave
 loop-i-init c = (omega (arith, c.requires.within), refl, record { below = λ s h. absurd (omega arith); here = refl })
 
-pub returns-in-err-from : goal.returns-in-err-from
-returns-in-err-from c =
+pub returns-in_err-from : goal.returns-in_err-from
+returns-in_err-from c =
     let bytes = c.args.bytes.now in
     let i = c.loop-i.i in
-    let p = err_from_is_err_and c.from-residual.result c.from-residual.ensures.1 in
-    let f = refused (step_fault bytes i) (step_in bytes i).from _ c.in-err-from.ensures in
+    let p = err_from_is_err_and c.from_residual.result c.from_residual.ensures.1 in
+    let f = refused (step_fault bytes i) (step_in bytes i).from _ c.in_err-from.ensures in
     rw (p.1, p.2) (first_here c.args.count i (step_fault bytes) _ (omega arith) c.loop-i.invariant.1 f)
 
 pub loop-i-preserved : goal.loop-i-preserved
 loop-i-preserved c =
     let bytes = c.args.bytes.now in
     let i = c.loop-i.i in
-    let a = accepted (step_fault bytes i) (step_in bytes i).from _ c.in-ok-from.ensures in
+    let a = accepted (step_fault bytes i) (step_in bytes i).from _ c.in_ok-from.ensures in
     let none = first_more i (step_fault bytes) c.loop-i.invariant.1 a.0 in (
       omega (arith, c.requires.here, (good_step bytes i a.0).room),
       none,

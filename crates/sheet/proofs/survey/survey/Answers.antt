@@ -34,34 +34,34 @@ same_shape c d p q r s t =
     let five : ℕ → Shape = λ x. record { states = d.states; names = d.names; labels = d.labels; count = d.count; steps = x } in
     ap one p ∙ ap two q ∙ ap three r ∙ ap four s ∙ ap five t
 
-pub returns-in-err-header : goal.returns-in-err-header
-returns-in-err-header c =
+pub returns-in_err-header : goal.returns-in_err-header
+returns-in_err-header c =
     let bytes = c.args.bytes.now in
-    let p = err_from_is_err_and c.from-residual.result c.from-residual.ensures.1 in
-    rw (p.1, p.2, sheet_header bytes _ (refused (header_fault bytes) tt _ c.in-err-header.ensures))
+    let p = err_from_is_err_and c.from_residual.result c.from_residual.ensures.1 in
+    rw (p.1, p.2, sheet_header bytes _ (refused (header_fault bytes) tt _ c.in_err-header.ensures))
 
-pub returns-in-err-labels-start : goal.returns-in-err-labels-start
-returns-in-err-labels-start c =
+pub returns-in_err-labels_start : goal.returns-in_err-labels_start
+returns-in_err-labels_start c =
     let bytes = c.args.bytes.now in
-    let h = (accepted (header_fault bytes) tt _ c.in-ok-header.ensures).0 in
-    let p = err_from_is_err_and c.from-residual-in-err-labels-start.result c.from-residual-in-err-labels-start.ensures.1 in
-    rw (p.1, p.2, sheet_names bytes _ h (refused (first_fault (name_count bytes) (name_fault bytes)) (labels_at bytes) _ c.in-err-labels-start.ensures))
+    let h = (accepted (header_fault bytes) tt _ c.in_ok-header.ensures).0 in
+    let p = err_from_is_err_and c.from_residual-in_err-labels_start.result c.from_residual-in_err-labels_start.ensures.1 in
+    rw (p.1, p.2, sheet_names bytes _ h (refused (first_fault (name_count bytes) (name_fault bytes)) (labels_at bytes) _ c.in_err-labels_start.ensures))
 
 pub labels-requires : goal.labels-requires
 labels-requires c =
     let bytes = c.args.bytes.now in
-    let h = good_header bytes (accepted (header_fault bytes) tt _ c.in-ok-header.ensures).0 in
-    let n = accepted (first_fault (name_count bytes) (name_fault bytes)) (labels_at bytes) _ c.in-ok-labels-start.ensures in
+    let h = good_header bytes (accepted (header_fault bytes) tt _ c.in_ok-header.ensures).0 in
+    let n = accepted (first_fault (name_count bytes) (name_fault bytes)) (labels_at bytes) _ c.in_ok-labels_start.ensures in
     record { here = n.1; within = omega (arith, n.1, names_room bytes (name_count bytes) h.room n.0); limit = one_shl (name_count bytes) 64 (omega (arith, h.few_names)) }
 
-pub returns-in-err-offset : goal.returns-in-err-offset
-returns-in-err-offset c =
+pub returns-in_err-offset : goal.returns-in_err-offset
+returns-in_err-offset c =
     let bytes = c.args.bytes.now in
     let states = c.number-states.result in
-    let h = (accepted (header_fault bytes) tt _ c.in-ok-header.ensures).0 in
-    let n = (accepted (first_fault (name_count bytes) (name_fault bytes)) (labels_at bytes) _ c.in-ok-labels-start.ensures).0 in
-    let f = refused (first_fault states (label_fault bytes)) (label_at bytes states) _ c.in-err-offset.ensures in
-    let p = err_from_is_err_and c.from-residual-in-err-offset.result c.from-residual-in-err-offset.ensures.1 in
+    let h = (accepted (header_fault bytes) tt _ c.in_ok-header.ensures).0 in
+    let n = (accepted (first_fault (name_count bytes) (name_fault bytes)) (labels_at bytes) _ c.in_ok-labels_start.ensures).0 in
+    let f = refused (first_fault states (label_fault bytes)) (label_at bytes states) _ c.in_err-offset.ensures in
+    let p = err_from_is_err_and c.from_residual-in_err-offset.result c.from_residual-in_err-offset.ensures.1 in
     rw (p.1, p.2, sheet_labels bytes _ h n (ap (λ k. first_fault k (label_fault bytes)) (sym c.number-states.ensures.value) ∙ f))
 
 pub tail-requires : goal.tail-requires
@@ -69,33 +69,33 @@ tail-requires c =
     let bytes = c.args.bytes.now in
     let states = c.number-states.result in
     let e = c.number-states.ensures.value in
-    let h = (accepted (header_fault bytes) tt _ c.in-ok-header.ensures).0 in
-    let n = (accepted (first_fault (name_count bytes) (name_fault bytes)) (labels_at bytes) _ c.in-ok-labels-start.ensures).0 in
-    let l = c.in-ok-offset.ensures in
+    let h = (accepted (header_fault bytes) tt _ c.in_ok-header.ensures).0 in
+    let n = (accepted (first_fault (name_count bytes) (name_fault bytes)) (labels_at bytes) _ c.in_ok-labels_start.ensures).0 in
+    let l = c.in_ok-offset.ensures in
     record { here = (labels_none bytes states e _ l).1; within = tail_within bytes states e _ h n l; states = e }
 
-pub returns-in-err-count : goal.returns-in-err-count
-returns-in-err-count c =
+pub returns-in_err-count : goal.returns-in_err-count
+returns-in_err-count c =
     let bytes = c.args.bytes.now in
-    let h = (accepted (header_fault bytes) tt _ c.in-ok-header.ensures).0 in
-    let n = (accepted (first_fault (name_count bytes) (name_fault bytes)) (labels_at bytes) _ c.in-ok-labels-start.ensures).0 in
-    let l = (labels_none bytes c.number-states.result c.number-states.ensures.value _ c.in-ok-offset.ensures).0 in
-    let p = err_from_is_err_and c.from-residual-in-err-count.result c.from-residual-in-err-count.ensures.1 in
-    rw (p.1, p.2, sheet_tail bytes h n l, refused (tail_fault bytes) (step_count bytes) _ c.in-err-count.ensures)
+    let h = (accepted (header_fault bytes) tt _ c.in_ok-header.ensures).0 in
+    let n = (accepted (first_fault (name_count bytes) (name_fault bytes)) (labels_at bytes) _ c.in_ok-labels_start.ensures).0 in
+    let l = (labels_none bytes c.number-states.result c.number-states.ensures.value _ c.in_ok-offset.ensures).0 in
+    let p = err_from_is_err_and c.from_residual-in_err-count.result c.from_residual-in_err-count.ensures.1 in
+    rw (p.1, p.2, sheet_tail bytes h n l, refused (tail_fault bytes) (step_count bytes) _ c.in_err-count.ensures)
 
-pub overflow-add-result : goal.overflow-add-result
-overflow-add-result c =
+pub overflow_add-result : goal.overflow_add-result
+overflow_add-result c =
     let bytes = c.args.bytes.now in
-    let h = (accepted (header_fault bytes) tt _ c.in-ok-header.ensures).0 in
-    let n = (accepted (first_fault (name_count bytes) (name_fault bytes)) (labels_at bytes) _ c.in-ok-labels-start.ensures).0 in
-    let w = tail_within bytes c.number-states.result c.number-states.ensures.value _ h n c.in-ok-offset.ensures in
+    let h = (accepted (header_fault bytes) tt _ c.in_ok-header.ensures).0 in
+    let n = (accepted (first_fault (name_count bytes) (name_fault bytes)) (labels_at bytes) _ c.in_ok-labels_start.ensures).0 in
+    let w = tail_within bytes c.number-states.result c.number-states.ensures.value _ h n c.in_ok-offset.ensures in
     search rules
 
 pub returns : goal.returns
 returns c =
     let bytes = c.args.bytes.now in
-    let h = (accepted (header_fault bytes) tt _ c.in-ok-header.ensures).0 in
-    let n = accepted (first_fault (name_count bytes) (name_fault bytes)) (labels_at bytes) _ c.in-ok-labels-start.ensures in
-    let l = labels_none bytes c.number-states.result c.number-states.ensures.value _ c.in-ok-offset.ensures in
-    let t = accepted (tail_fault bytes) (step_count bytes) _ c.in-ok-count.ensures in
+    let h = (accepted (header_fault bytes) tt _ c.in_ok-header.ensures).0 in
+    let n = accepted (first_fault (name_count bytes) (name_fault bytes)) (labels_at bytes) _ c.in_ok-labels_start.ensures in
+    let l = labels_none bytes c.number-states.result c.number-states.ensures.value _ c.in_ok-offset.ensures in
+    let t = accepted (tail_fault bytes) (step_count bytes) _ c.in_ok-count.ensures in
     rw (sheet_tail bytes h n.0 l.0, t.0) (ap Ok (same_shape _ (shape_in bytes) c.number-states.ensures.value refl n.1 t.1 (omega (arith, l.1))))

@@ -8,7 +8,7 @@ returns c =
     let b = c.args.b in
     let e = c.args.self.now in
     let null : c.if-a.nullable ≡ (a.nullable && b.nullable) = search rules in
-    let value = linked_joined a b _ c.link.new.rows e.follow e.rows c.link.ensures null c.union-if.ensures c.union-if-2.ensures in
+    let value = linked_joined a b _ c.link.new.rows e.follow e.rows c.link.ensures null c.union_if.ensures c.union_if-2.ensures in
     record {
       value = value;
       built = λ x y o. seq_built x y o a b _ e _ refl value;

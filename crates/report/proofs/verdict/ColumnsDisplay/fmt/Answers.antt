@@ -16,7 +16,7 @@ loop-b-preserved g c plain =
     let small : c.from.result < 128 = omega (arith, code, column_small (get_or text i 0)) in
     let one : encode c.from.result ≡ shown ∷ [] = encode_ascii c.from.result small ∙ ap {B = List ℕ} (λ x. x ∷ []) code in
     let so_far = c.loop-b.invariant plain in
-    let next = has_written_of_eq _ _ _ _ _ one (c.in-ok-write-char.ensures.writes so_far.plain refl) in
+    let next = has_written_of_eq _ _ _ _ _ one (c.in_ok-write_char.ensures.writes so_far.plain refl) in
     let more = sym (columns_more text i c.loop-b-test.true) ∙ ap {B = List ℕ} (λ k. columns_of (take k text)) (sym (add-one i)) in
     has_written_of_eq _ _ _ _ _ more (has_written_append _ _ _ _ _ _ so_far next)
 

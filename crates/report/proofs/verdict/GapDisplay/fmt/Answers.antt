@@ -7,7 +7,7 @@ use Rattle.report.proofs.verdict.GapDisplay.fmt.Goals as goal
 pub loop-preserved : goal.loop-preserved
 loop-preserved g c plain =
     let so_far = c.loop.invariant plain in
-    let next = c.in-ok-write-str.ensures.writes so_far.plain refl in
+    let next = c.in_ok-write_str.ensures.writes so_far.plain refl in
     let more = sym (repeated_more c.loop.counter (codes " ")) ∙ ap {B = List ℕ} (λ k. repeat k (codes " ")) (sym (add-one c.loop.counter)) in
     has_written_of_eq _ _ _ _ _ more (has_written_append _ _ _ _ _ _ so_far next)
 

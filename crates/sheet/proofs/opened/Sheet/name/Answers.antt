@@ -14,15 +14,15 @@ returns-then-i-self c =
     let n = name_count_is x.bytes.now x.shape x.found in
     sym (slice_get_past (sheet_model x.bytes.now).names c.args.i (omega arith))
 
-pub name-start-requires : goal.name-start-requires
-name-start-requires c =
+pub name_start-requires : goal.name_start-requires
+name_start-requires c =
     let x = c.args.self.now in
     first_fewer x.shape.names c.args.i (name_fault x.bytes.now) (omega arith) (names_right x.bytes.now x.shape x.found)
 
-pub word-there-requires : goal.word-there-requires
-word-there-requires c =
+pub word_there-requires : goal.word_there-requires
+word_there-requires c =
     let x = c.args.self.now in
-    name_room x.bytes.now x.shape.names c.args.i c.name-start.result (names_right x.bytes.now x.shape x.found) (omega arith) c.name-start.ensures
+    name_room x.bytes.now x.shape.names c.args.i c.name_start.result (names_right x.bytes.now x.shape x.found) (omega arith) c.name_start.ensures
 
 pub returns : goal.returns
 returns c =
@@ -30,5 +30,5 @@ returns c =
     let names = map (name_in x.bytes.now) (range_with_len 0 x.shape.names) in
     let read = slice_get-get_or names c.args.i [] (omega (arith, length-map-range_with_len (name_in x.bytes.now) 0 x.shape.names)) in
     let here = get_or-map-range_with_len (name_in x.bytes.now) 0 x.shape.names c.args.i c.args.i [] (omega arith) (zero-add c.args.i) in
-    ap Some (c.word-there.ensures.value ∙ ap (word_at x.bytes.now) c.name-start.ensures ∙ sym here)
+    ap Some (c.word_there.ensures.value ∙ ap (word_at x.bytes.now) c.name_start.ensures ∙ sym here)
     ∙ sym read ∙ ap (λ ns. slice_get ns c.args.i) (names_are x.bytes.now x.shape x.found)

@@ -18,11 +18,11 @@ returns-then-state-self c =
 pub place-requires : goal.place-requires
 place-requires c = let x = c.args.self.now in names_right x.bytes.now x.shape x.found
 
-pub long-number-requires : goal.long-number-requires
-long-number-requires c = let x = c.args.self.now in label_room x.bytes.now x.shape x.found c.args.state (omega arith)
+pub long_number-requires : goal.long_number-requires
+long_number-requires c = let x = c.args.self.now in label_room x.bytes.now x.shape x.found c.args.state (omega arith)
 
-pub is-set-requires : goal.is-set-requires
-is-set-requires c =
+pub is_set-requires : goal.is_set-requires
+is_set-requires c =
     let x = c.args.self.now in
     let names = map (name_in x.bytes.now) (range_with_len 0 x.shape.names) in
     let few = few_names x.bytes.now x.shape x.found c.args.state (omega arith) in
@@ -33,7 +33,7 @@ pub returns-in-Some : goal.returns-in-Some
 returns-in-Some c =
     let x = c.args.self.now in
     let label = u32_at x.bytes.now (x.shape.labels + 4 * c.args.state) in
-    c.is-set.ensures ∙ ap (λ l. has_bit l c.in-Some.bit) c.long-number.ensures
+    c.is_set.ensures ∙ ap (λ l. has_bit l c.in-Some.bit) c.long_number.ensures
     ∙ ap (λ o. borne o label) c.in-Some.ensures
     ∙ sym (bears_is x.bytes.now x.shape x.found c.args.state c.args.word.now (omega arith))
 

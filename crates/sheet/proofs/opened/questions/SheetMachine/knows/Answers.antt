@@ -6,4 +6,4 @@ pub place-requires : goal.place-requires
 place-requires c = let x = c.args.self.now in names_right x.bytes.now x.shape x.found
 
 pub returns : goal.returns
-returns c = let x = c.args.self.now in c.is-some.ensures ∙ ap is_some c.place.ensures ∙ known x.bytes.now x.shape x.found c.args.word.now
+returns c = let x = c.args.self.now in c.is_some.ensures ∙ ap is_some c.place.ensures ∙ known x.bytes.now x.shape x.found c.args.word.now

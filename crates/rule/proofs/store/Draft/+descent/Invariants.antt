@@ -2,7 +2,7 @@ use Rattle.std.proofs.Common.{◌+◌, ◌*◌, [], ◌∷◌, length}
 use Rattle.grammar.specs.Grammar.{State, Conj, Reg, Seq, Starred}
 use Rattle.grammar.specs.Judging.{phrase, ands, asts, dots}
 use Rattle.rule.proofs.Rounds.{Carried, CarriedPiece}
-use Rattle.rule.proofs.store.Draft.+alternatives_base_bracketed_conjunction_cycle_disjunction_negation_path_sequence_starred_unary.Given as goal
+use Rattle.rule.proofs.store.Draft.+descent.Given as goal
 
 -- the bytes left, then the rank of the function among those that read from one place
 abbrev pub decreases-alternatives : goal.decreases-alternatives
