@@ -10,11 +10,11 @@ mod request;
 mod rules;
 mod single;
 
-use anyhow::anyhow;
 use command::Command;
 use complaint::{USAGE, complain};
 use machines::on_machine;
 use std::env;
+use std::process::ExitCode;
 
 /// Takes the last word for the file of rules, and those before it for the machine.
 fn on_rules(rt: &HostRuntime, words: &[String]) -> anyhow::Result<bool> {
@@ -51,10 +51,10 @@ fn run(rt: &HostRuntime) -> anyhow::Result<bool> {
     obey(rt, &words)
 }
 
-fn main(rt: HostRuntime) -> anyhow::Result<()> {
+fn main(rt: HostRuntime) -> anyhow::Result<ExitCode> {
     if run(&rt)? {
-        Ok(())
+        Ok(ExitCode::SUCCESS)
     } else {
-        Err(anyhow!("refused"))
+        Ok(ExitCode::FAILURE)
     }
 }
