@@ -1,5 +1,5 @@
 -- What a sheet means keeps the laws of machines.
-use Rattle.std.proofs.Common.{◌≡◌, ℕ, ◌/◌, ◌%◌, ◌^◌, true, false, List, length, is_some, Some, None, Option, sym, refl, ap, ◌∙◌, inl, inr, arith}
+use Rattle.std.proofs.Common.{◌≡◌, ℕ, ◌/◌, ◌%◌, ◌^◌, true, List, length, is_some, Some, None, Option, sym, refl, ap, ◌∙◌, inl, inr, arith}
 use native.Mathlib.Nat.{zero-div}
 use Rattle.std.proofs.lemmas.List.{get_or_past}
 use Rattle.std.proofs.lemmas.Bool.{cases_lt, false≢true, eqb-true}
