@@ -1,7 +1,7 @@
 -- Expressions joined by a sign, reg = seq { | seq } and seq = star { . star }; and star = base { * }.
 use Rattle.std.proofs.Common.{◌≡◌, ℕ, ◌+◌, true, false, cond, List, [], ◌∷◌, ◌++◌, get_or, Some, sym, refl, ap, ◌∙◌, subst, append_assoc, arith}
 use Rattle.fault.specs.declared.Fault.{Fault}
-use Rattle.logic.specs.Formulas.{Regular, seq as then-also, alt, star, size, letter_parts, EachLetter}
+use Rattle.logic.specs.Formulas.{Regular, seq as then_also, alt, star, size, letter_parts, EachLetter}
 use Rattle.automaton.specs.declared.Piece.{Piece}
 use Rattle.automaton.specs.declared.store.Letters.{Letters}
 use Rattle.automaton.specs.Built.{Built, Relinked}
@@ -74,7 +74,7 @@ by_bar = record {
   ended = λ σ. refl;
 }
 
-pub by_dot : Joining Seq Starred seq starred dots (phrase asts ∷ []) Dot then-also
+pub by_dot : Joining Seq Starred seq starred dots (phrase asts ∷ []) Dot then_also
 by_dot = record {
   one = seq_is;
   join = seq_then;
