@@ -7,7 +7,7 @@ use Rattle.logic.specs.Meaning.{Match}
 use Rattle.logic.specs.Positions.{Positions, positions, letter_at, Run, Accepts}
 use Rattle.logic.proofs.Walks.{Inside, inside}
 use Rattle.logic.proofs.Words.{spelled}
-use Rattle.automaton.specs.Built.{as_positions, Same, Built}
+use Rattle.automaton.specs.Built.{as_positions, rows_of, Same, Built}
 use Rattle.automaton.specs.Automata.{AutomatonOf, Spells}
 use Rattle.automaton.specs.declared.Automaton.{Automaton}
 
@@ -63,7 +63,7 @@ module _ (m : Model) (π : ℕ → ℕ) (a b : Positions) (φ : ℕ → Formula)
 -- the automaton of an expression spells exactly the intervals that match it
 pub automaton_spells : {r : Regular} {a : Automaton} → AutomatonOf r a → (m : Model) (π : ℕ → ℕ) (i j : ℕ) → Match m π i j r ↔ Spells m π a (letter_at r) i j
 automaton_spells {r = r} {a = a} A m π i j =
-    let bits : Positions = as_positions a.whole a.letters.follow in
+    let bits : Positions = as_positions a.whole (rows_of a.letters) in
     let b : Positions = positions r 0 in
     let s : Same (size r) bits b = record { null = A.null; first = A.first; last = A.last; follow = A.follow } in
     let within : Inside b 0 (size r) = subst (Inside b 0) (zero-add (size r)) (inside r 0) in

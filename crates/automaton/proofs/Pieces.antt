@@ -1,13 +1,14 @@
 -- Pieces that are built are the automata of larger and larger expressions.
-use Rattle.std.proofs.Common.{◌≡◌, ℕ, ◌+◌, ◌<◌, ◌≤◌, Bool, true, false, ◌&&◌, ◌||◌, ◌⊎◌, ◌↔◌, List, length, get_or, sym, refl, ap, ◌∙◌, subst, inl, inr, ⊎_elim, arith}
+use Rattle.std.proofs.Common.{◌≡◌, ℕ, ◌+◌, ◌<◌, ◌≤◌, Bool, true, false, ◌&&◌, ◌||◌, ◌⊎◌, ◌↔◌, List, get_or, sym, ap, ◌∙◌, subst, inl, inr, ⊎_elim, arith}
 use mathlib.Core.Logic.Iff
 use native.Mathlib.Decide.{dec_lt}
-use Rattle.std.proofs.lemmas.Bool.{true≢false, false≢true}
+use Rattle.std.proofs.Math.Logic.{⊎_map}
+use Rattle.std.proofs.lemmas.Bool.{true≢false, and_from, and_parts, or_cases, or_left, or_right}
 use Rattle.logic.specs.Formulas.{Formula, Regular, letter, seq, alt, star, size}
 use Rattle.logic.specs.Positions.{positions, joined, choice, again}
 use Rattle.logic.proofs.Walks.{inside}
 use Rattle.automaton.specs.Sets.{Bit, Linked}
-use Rattle.automaton.specs.Built.{as_positions, Same, Built}
+use Rattle.automaton.specs.Built.{as_positions, rows_of, Same, Built}
 use Rattle.automaton.specs.declared.Piece.{Piece}
 use Rattle.automaton.specs.declared.store.Letters.{Letters}
 use Rattle.automaton.proofs.Sets.{no_bit}
@@ -15,7 +16,7 @@ use Rattle.automaton.proofs.Sets.{no_bit}
 -- a piece stays built where letters are added and its rows are kept
 pub built_kept :
     {r : Regular} {o : ℕ} {a : Piece} {e u : Letters} → Built r o a e → e.count ≤ u.count →
-    ((p : ℕ) → o ≤ p → p < o + size r → get_or u.follow p 0 ≡ get_or e.follow p 0) → Built r o a u
+    ((p : ℕ) → o ≤ p → p < o + size r → get_or (rows_of u) p 0 ≡ get_or (rows_of e) p 0) → Built r o a u
 built_kept {r = r} {o = o} B more same = record {
   room = omega (arith, B.room);
   null = B.null;
@@ -29,15 +30,13 @@ pub last_inside : {r : Regular} {o : ℕ} {a : Piece} {e : Letters} → Built r 
 last_inside {r = r} {o = o} B p b = (inside r o).last p ((B.last p).0 b)
 
 iff_or : {A B C D : Type 0} → A ↔ C → B ↔ D → (A ⊎ B) ↔ (C ⊎ D)
-iff_or f g = (⊎_elim (λ a. inl (f.0 a)) (λ c. inr (g.0 c)), ⊎_elim (λ b. inl (f.1 b)) (λ d. inr (g.1 d)))
+iff_or f g = (⊎_map f.0 g.0, ⊎_map f.1 g.1)
 
 and_both : (x y : Bool) → ((x && y) ≡ true) ↔ ((x ≡ true) × (y ≡ true))
-and_both true y = (λ e. (refl, e), λ e. e.1)
-and_both false y = (λ e. absurd (false≢true e), λ e. absurd (false≢true e.0))
+and_both x y = (and_parts x y, λ e. and_from x y e.0 e.1)
 
 or_either : (x y : Bool) → ((x || y) ≡ true) ↔ ((x ≡ true) ⊎ (y ≡ true))
-or_either true y = (inl, λ _. refl)
-or_either false y = (inr, ⊎_elim (λ e. absurd (false≢true e)) (λ e. e))
+or_either x y = (or_cases x y, ⊎_elim (or_left x y) (or_right x y))
 
 value_iff : {x y : Bool} {P : Type 0} → x ≡ y → (y ≡ true) ↔ P → (x ≡ true) ↔ P
 value_iff e f = (λ t. f.0 (sym e ∙ t), λ p. e ∙ f.1 p)
@@ -53,11 +52,11 @@ chosen a b c null first last rows = record {
 }
 
 pub linked_joined :
-    (a b c : Piece) (rows old : List ℕ) → length old ≡ 31 → Linked rows old (length old) a.last b.first → c.nullable ≡ (a.nullable && b.nullable) →
+    (a b c : Piece) (rows old : List ℕ) (n : ℕ) → n ≡ 31 → Linked rows old n a.last b.first → c.nullable ≡ (a.nullable && b.nullable) →
     ((j : ℕ) → Bit c.first j ↔ (Bit a.first j ⊎ ((a.nullable ≡ true) × Bit b.first j))) →
     ((j : ℕ) → Bit c.last j ↔ (Bit b.last j ⊎ ((b.nullable ≡ true) × Bit a.last j))) →
     Same 31 (as_positions c rows) (joined (as_positions a old) (as_positions b old))
-linked_joined a b c rows old long linked null first last = record {
+linked_joined a b c rows old n long linked null first last = record {
   null = value_iff null (and_both a.nullable b.nullable);
   first = first;
   last = last;
@@ -65,9 +64,9 @@ linked_joined a b c rows old long linked null first last = record {
 }
 
 pub linked_again :
-    (a c : Piece) (rows old : List ℕ) → length old ≡ 31 → Linked rows old (length old) a.last a.first → c.nullable ≡ true →
+    (a c : Piece) (rows old : List ℕ) (n : ℕ) → n ≡ 31 → Linked rows old n a.last a.first → c.nullable ≡ true →
     c.first ≡ a.first → c.last ≡ a.last → Same 31 (as_positions c rows) (again (as_positions a old))
-linked_again a c rows old long linked null first last = record {
+linked_again a c rows old n long linked null first last = record {
   null = (λ _. tt, λ _. null);
   first = λ p. (subst (λ n. Bit n p) first, subst (λ n. Bit n p) (sym first));
   last = λ p. (subst (λ n. Bit n p) last, subst (λ n. Bit n p) (sym last));
@@ -76,19 +75,19 @@ linked_again a c rows old long linked null first last = record {
 
 pub letter_built :
     (f : Formula) (p : ℕ) (a : Piece) (e : Letters) → p < e.count → a.nullable ≡ false →
-    ((j : ℕ) → Bit a.first j ↔ (j ≡ p)) → ((j : ℕ) → Bit a.last j ↔ (j ≡ p)) → get_or e.follow p 0 ≡ 0 → Built (letter f) p a e
+    ((j : ℕ) → Bit a.first j ↔ (j ≡ p)) → ((j : ℕ) → Bit a.last j ↔ (j ≡ p)) → get_or (rows_of e) p 0 ≡ 0 → Built (letter f) p a e
 letter_built f p a e h n first last z = record {
   room = omega arith;
   null = (λ t. true≢false (sym t ∙ n), λ x. absurd x);
   first = first;
   last = last;
-  follow = λ k q lo hi. let i : k ≡ p = omega arith in (λ b. no_bit (get_or e.follow k 0) q (ap (λ j. get_or e.follow j 0) i ∙ z) b, λ x. absurd x);
+  follow = λ k q lo hi. let i : k ≡ p = omega arith in (λ b. no_bit (get_or (rows_of e) k 0) q (ap (λ j. get_or (rows_of e) j 0) i ∙ z) b, λ x. absurd x);
 }
 
 -- the rows of two pieces, one behind the other
 pair_follow :
     {x y : Regular} {o : ℕ} {a b : Piece} {e : Letters} → Built x o a e → Built y (o + size x) b e → (p q : ℕ) → o ≤ p → p < o + (size x + size y) →
-    Bit (get_or e.follow p 0) q ↔ ((positions x o).follow p q ⊎ (positions y (o + size x)).follow p q)
+    Bit (get_or (rows_of e) p 0) q ↔ ((positions x o).follow p q ⊎ (positions y (o + size x)).follow p q)
 pair_follow {x = x} {y = y} {o = o} A B p q lo hi = elim (dec_lt p (o + size x)) [
   | yes h ↦ (λ s. inl ((A.follow p q lo h).0 s), ⊎_elim (A.follow p q lo h).1 (λ g. absurd (omega (arith, (inside y (o + size x)).before p q g))))
   | no h ↦
@@ -98,7 +97,7 @@ pair_follow {x = x} {y = y} {o = o} A B p q lo hi = elim (dec_lt p (o + size x))
 ]
 
 pub alt_built :
-    (x y : Regular) (o : ℕ) (a b c : Piece) (e : Letters) → Same 31 (as_positions c e.follow) (choice (as_positions a e.follow) (as_positions b e.follow)) →
+    (x y : Regular) (o : ℕ) (a b c : Piece) (e : Letters) → Same 31 (as_positions c (rows_of e)) (choice (as_positions a (rows_of e)) (as_positions b (rows_of e))) →
     Built x o a e → Built y (o + size x) b e → Built (alt x y) o c e
 alt_built x y o a b c e s A B = record {
   room = omega (arith, B.room);
@@ -110,14 +109,14 @@ alt_built x y o a b c e s A B = record {
 
 pub seq_built :
     (x y : Regular) (o : ℕ) (a b c : Piece) (e u : Letters) → u.count ≡ e.count →
-    Same 31 (as_positions c u.follow) (joined (as_positions a e.follow) (as_positions b e.follow)) → Built x o a e → Built y (o + size x) b e → Built (seq x y) o c u
+    Same 31 (as_positions c (rows_of u)) (joined (as_positions a (rows_of e)) (as_positions b (rows_of e))) → Built x o a e → Built y (o + size x) b e → Built (seq x y) o c u
 seq_built x y o a b c e u count s A B = record {
   room = omega (arith, B.room);
   null = Iff.trans s.null (Iff.and A.null B.null);
   first = λ p. Iff.trans (s.first p) (iff_or (A.first p) (Iff.and A.null (B.first p)));
   last = λ p. Iff.trans (s.last p) (iff_or (B.last p) (Iff.and B.null (A.last p)));
   follow = λ p q lo hi.
-      let rows : Bit (get_or e.follow p 0) q ↔ ((positions x o).follow p q ⊎ (positions y (o + size x)).follow p q) = pair_follow A B p q lo hi in
+      let rows : Bit (get_or (rows_of e) p 0) q ↔ ((positions x o).follow p q ⊎ (positions y (o + size x)).follow p q) = pair_follow A B p q lo hi in
       let link : (Bit a.last p × Bit b.first q) ↔ ((positions x o).last p × (positions y (o + size x)).first q) = Iff.and (A.last p) (B.first q) in
       let behind = ⊎_elim inl (λ f. inr (inl f)) in
       Iff.trans (s.follow p q (omega (arith, B.room, e.few))) (
@@ -127,7 +126,7 @@ seq_built x y o a b c e u count s A B = record {
 }
 
 pub star_built :
-    (x : Regular) (o : ℕ) (a c : Piece) (e u : Letters) → u.count ≡ e.count → Same 31 (as_positions c u.follow) (again (as_positions a e.follow)) →
+    (x : Regular) (o : ℕ) (a c : Piece) (e u : Letters) → u.count ≡ e.count → Same 31 (as_positions c (rows_of u)) (again (as_positions a (rows_of e))) →
     Built x o a e → Built (star x) o c u
 star_built x o a c e u count s A = record {
   room = omega (arith, A.room);

@@ -1,18 +1,19 @@
 #![tactic(auto)]
 
-ghost use Rattle.std.specs.Prelude.{◌≡◌, ℕ, ◌+◌, ◌↔◌, List, if◌then◌else◌, Some, None, nat_le, nat_lt, slice_index};
+ghost use Rattle.std.specs.Prelude.{◌≡◌, ℕ, ◌+◌, ◌↔◌, List, if◌then◌else◌, Some, None, nat_le, nat_lt, slice_index, take};
 ghost use Rattle.machine.specs.Model.{Model};
 ghost use Rattle.logic.specs.Formulas.{Regular, size};
 ghost use Rattle.logic.specs.Formulas.Regular.{seq, alt, star};
 ghost use Rattle.logic.specs.Meaning.{Match};
 ghost use Rattle.logic.specs.Positions.{joined, choice, again, letter_at};
-ghost use Rattle.automaton.specs.Built.{as_positions, Same, Built, Lettered, Relinked};
+ghost use Rattle.automaton.specs.Built.{as_positions, rows_of, labels_of, Same, Built, Lettered, Relinked};
 ghost use Rattle.automaton.specs.Automata.{AutomatonOf, Spells};
 
 mod set;
 mod store;
 
 use set::{link, only, union, union_if};
+use store::Letter;
 pub use store::Letters;
 
 /// A piece of an expression: which letters it can begin with and end with, letter p as bit p of a set, and whether it matches the empty interval.
@@ -30,8 +31,7 @@ impl Letters {
     {
         Letters {
             count: 0,
-            follow: [0; 31],
-            parts: [0; 31],
+            letters: [Letter { follow: 0, part: 0 }; 31],
         }
     }
 
@@ -42,17 +42,22 @@ impl Letters {
         self.count >= 31
     }
 
+    fn used(&self) -> &[Letter]
+        ensures { result.now ≡ take self.now.count self.now.letters }
+    {
+        &self.letters[..self.count]
+    }
+
     /// One letter more, that stands for this part of the rule, unless 31 are there.
     pub fn letter(&mut self, part: usize) -> Option<Piece>
         ensures { Lettered part self.old self.new result }
     {
-        let p = self.count;
-        if p >= 31 {
+        if self.is_full() {
             return None;
         }
-        self.follow[p] = 0;
-        self.parts[p] = part;
-        self.count = p + 1;
+        let p = self.count;
+        self.letters[p] = Letter { follow: 0, part };
+        self.count += 1;
         let here = only(p);
         Some(Piece {
             first: here,
@@ -63,11 +68,11 @@ impl Letters {
 
     /// A piece, and then another, whose letters come behind.
     pub fn sequence(&mut self, a: Piece, b: Piece) -> Piece
-        ensures value { Same 31 (as_positions result self.new.follow) (joined (as_positions a self.old.follow) (as_positions b self.old.follow)) }
+        ensures value { Same 31 (as_positions result (rows_of self.new)) (joined (as_positions a (rows_of self.old)) (as_positions b (rows_of self.old))) }
         ensures built { (x y : Regular) (o : ℕ) → Built x o a self.old → Built y (o + size x) b self.old → Built (seq x y) o result self.new }
         ensures kept { Relinked a.last self.old self.new }
     {
-        link(&mut self.follow, a.last, b.first);
+        link(&mut self.letters, a.last, b.first);
         let nullable = a.nullable && b.nullable;
         Piece {
             first: union_if(a.first, a.nullable, b.first),
@@ -78,11 +83,11 @@ impl Letters {
 
     /// A piece any number of times.
     pub fn repeated(&mut self, a: Piece) -> Piece
-        ensures value { Same 31 (as_positions result self.new.follow) (again (as_positions a self.old.follow)) }
+        ensures value { Same 31 (as_positions result (rows_of self.new)) (again (as_positions a (rows_of self.old))) }
         ensures built { (x : Regular) (o : ℕ) → Built x o a self.old → Built (star x) o result self.new }
         ensures kept { Relinked a.last self.old self.new }
     {
-        link(&mut self.follow, a.last, a.first);
+        link(&mut self.letters, a.last, a.first);
         Piece {
             first: a.first,
             last: a.last,
@@ -131,13 +136,9 @@ impl Automaton {
 
     /// The part of the rule that letter p stands for, if there is such a letter.
     pub fn part(&self, p: usize) -> Option<usize>
-        ensures { result ≡ (if nat_lt p self.now.letters.count then Some (slice_index self.now.letters.parts p) else None) }
+        ensures { result ≡ (if nat_lt p self.now.letters.count then Some (slice_index (labels_of self.now.letters) p) else None) }
     {
-        if p < self.letters.count {
-            Some(self.letters.parts[p])
-        } else {
-            None
-        }
+        self.letters.used().get(p).map(|letter| letter.part)
     }
 
     /// The letters that a word can begin with.
@@ -156,13 +157,10 @@ impl Automaton {
 
     /// The letters that can follow letter p, none where there is no such letter.
     pub fn follow(&self, p: usize) -> u32
-        ensures { result ≡ (if nat_lt p self.now.letters.count then slice_index self.now.letters.follow p else 0) }
+        ensures { result ≡ (if nat_lt p self.now.letters.count then slice_index (rows_of self.now.letters) p else 0) }
     {
-        if p < self.letters.count {
-            self.letters.follow[p]
-        } else {
-            0
-        }
+        // 0 and no Option: the empty set, since nothing follows a letter that is not there.
+        self.letters.used().get(p).map_or(0, |letter| letter.follow)
     }
 
     /// Whether the empty word is one.

@@ -1,50 +1,21 @@
--- A barred machine keeps the laws, and no call takes a state's last open step.
-use Rattle.std.proofs.Common.{◌≡◌, ℕ, ◌<◌, Bool, true, false, cond, not, ◌&&◌, ◌||◌, eqb, ◌⊎◌, [], ◌∷◌, ◌++◌, length, is_some, Some, None, Option, sym, refl, ◌∙◌, inl, inr, arith, rules}
-use Rattle.std.proofs.lemmas.Bool.{and_from, and_left, and_parts, and_right, cases_Bool, cases_eq, cases_lt, cond-false, eqb-false, false≢true, ne_eqb, not_from_false, not-true}
+-- No call takes a state's last open step.
+use Rattle.std.proofs.Common.{Err, ◌≡◌, ℕ, ◌<◌, Bool, true, false, cond, not, ◌&&◌, ◌||◌, eqb, ◌⊎◌, [], ◌∷◌, ◌++◌, is_some, Some, None, Option, sym, refl, inl, inr, arith, rules}
+use Rattle.std.proofs.lemmas.Bool.{and_from, and_left, and_parts, and_right, cases_eq, cases_lt, eqb-false, false≢true, ne_eqb, not_from_false, not-true}
+use Rattle.fault.specs.declared.Fault.{Fault}
+use Rattle.fault.specs.Refusals.{unless}
 use Rattle.machine.specs.Model.{Model, Lawful}
 use Rattle.machine.proofs.Laws.{no_step}
-use Rattle.barred.specs.Bars.{Bars, KeepsOut, is_step, is_barred, is_open, has_open, has_other, without, barred_step, barred_model}
-use Rattle.barred.specs.Barring.{Sound, bar_fault}
-use Rattle.barred.proofs.Below.{some_below_true, some_below_where}
+use Rattle.barred.specs.declared.steps.Step.{Step}
+use Rattle.barred.specs.Bars.{Bars, step_of, KeepsOut, is_step, is_barred, is_open, has_open, has_other, without}
+use Rattle.barred.specs.Sound.{Sound}
+use Rattle.barred.specs.Barring.{bar_fault, unbar_fault, after}
+use Rattle.barred.specs.Laws.{some_below_where, open_where}
+use Rattle.barred.proofs.Below.{some_below_true}
 use Rattle.barred.proofs.Listed.{is_barred_push, is_barred_without}
-
-some_is : (o : Option ℕ) → is_some o ≡ true → (d : ℕ) × (o ≡ Some d)
-some_is (Some d) e = (d, refl)
-some_is None e = absurd (false≢true e)
-
-open_where : (m : Model) (bars : Bars) (s : ℕ) → has_open m bars s ≡ true → (t : ℕ) × (t < m.states) × (is_open m bars s t ≡ true)
-unfolding has_open
-open_where m bars s e = some_below_where m.states (is_open m bars s) e
 
 open_from : (m : Model) (bars : Bars) (s t : ℕ) → t < m.states → is_open m bars s t ≡ true → has_open m bars s ≡ true
 unfolding has_open
 open_from m bars s t h e = some_below_true m.states t (is_open m bars s) h e
-
--- a step that is not taken away has its seconds
-stays : (m : Model) (bars : Bars) (s t : ℕ) → (is_barred bars s t && has_open m bars s) ≡ false → barred_step m bars s t ≡ m.step s t
-stays m bars s t e = cond-false (is_barred bars s t && has_open m bars s) None (m.step s t) e
-
--- every state has a step that is not taken away
-step_left : {m : Model} → Lawful m → (bars : Bars) (s : ℕ) → s < m.states → (t : ℕ) × (d : ℕ) × (barred_step m bars s t ≡ Some d)
-step_left {m} law bars s h = elim (cases_Bool (has_open m bars s)) [
-  | inl y ↦
-      let w = open_where m bars s y in
-      let parts = and_parts (is_some (m.step s w.0)) (not (is_barred bars s w.0)) w.2 in
-      let d = some_is (m.step s w.0) parts.0 in
-      (w.0, d.0, stays m bars s w.0 (and_left (is_barred bars s w.0) (has_open m bars s) (not-true (is_barred bars s w.0) parts.1)) ∙ d.1)
-  | inr n ↦
-      let w = law.leaves s h in
-      (w.0, w.1, stays m bars s w.0 (and_right (is_barred bars s w.0) (has_open m bars s) n) ∙ w.2)
-]
-
-pub barred_lawful : {m : Model} → Lawful m → (bars : Bars) → Lawful (barred_model m bars)
-barred_lawful {m} law bars = record {
-  few_states = law.few_states;
-  few_names = law.few_names;
-  joins = λ s t d e. let j = law.joins s t d in search rules;
-  leaves = step_left law bars;
-  listed = law.listed;
-}
 
 -- where every state keeps an open step, a step is shown exactly if it is open
 pub sound_from_keeps : {m : Model} {bars : Bars} → Lawful m → KeepsOut m bars → Sound m bars
@@ -69,7 +40,7 @@ keeps_none {m} law s h =
     open_from m [] s w.0 j.1 (rw w.2)
 
 -- an open step stays open under a bar of another step
-open_push : (m : Model) (bars : Bars) (p : ℕ × ℕ) (s t : ℕ) → is_open m bars s t ≡ true → is_step p s t ≡ false → is_open m (bars ++ (p ∷ [])) s t ≡ true
+open_push : (m : Model) (bars : Bars) (p : Step) (s t : ℕ) → is_open m bars s t ≡ true → is_step p s t ≡ false → is_open m (bars ++ (p ∷ [])) s t ≡ true
 open_push m bars p s t e f = rw (is_barred_push bars p s t, f) (go (is_some (m.step s t)) (is_barred bars s t) e)
   where
     go : (o b : Bool) → (o && not b) ≡ true → (o && not (b || false)) ≡ true
@@ -84,18 +55,18 @@ open_without m bars s t x y e =
     let free = is_barred_without bars s t x y (not-true (is_barred bars x y) parts.1) in
     and_from (is_some (m.step x y)) (not (is_barred (without bars s t) x y)) parts.0 (not_from_false (is_barred (without bars s t) x y) free)
 
-keeps_push : (m : Model) (bars : Bars) → KeepsOut m bars → (s t : ℕ) → has_other m bars s t ≡ true → KeepsOut m (bars ++ ((s, t) ∷ []))
+keeps_push : (m : Model) (bars : Bars) → KeepsOut m bars → (s t : ℕ) → has_other m bars s t ≡ true → KeepsOut m (bars ++ (step_of s t ∷ []))
 unfolding has_other
 keeps_push m bars keeps s t e x h = elim (cases_eq x s) [
   | inl same ↦
       let w = some_below_where m.states (λ u. is_open m bars s u && not (eqb u t)) e in
       let parts = and_parts (is_open m bars s w.0) (not (eqb w.0 t)) w.2 in
       let another = and_right (eqb s s) (eqb t w.0) (ne_eqb t w.0 (λ q. eqb-false w.0 t (not-true (eqb w.0 t) parts.1) (sym q))) in
-      rw same (open_from m (bars ++ ((s, t) ∷ [])) s w.0 w.1 (open_push m bars (s, t) s w.0 parts.0 another))
+      rw same (open_from m (bars ++ (step_of s t ∷ [])) s w.0 w.1 (open_push m bars (step_of s t) s w.0 parts.0 another))
   | inr other ↦
       let w = open_where m bars x (keeps x h) in
       let another = and_left (eqb s x) (eqb t w.0) (ne_eqb s x (λ q. other (sym q))) in
-      open_from m (bars ++ ((s, t) ∷ [])) x w.0 w.1 (open_push m bars (s, t) x w.0 w.2 another)
+      open_from m (bars ++ (step_of s t ∷ [])) x w.0 w.1 (open_push m bars (step_of s t) x w.0 w.2 another)
 ]
 
 keeps_without : (m : Model) (bars : Bars) → KeepsOut m bars → (s t : ℕ) → KeepsOut m (without bars s t)
@@ -103,11 +74,19 @@ keeps_without m bars keeps s t x h =
     let w = open_where m bars x (keeps x h) in
     open_from m (without bars s t) x w.0 w.1 (open_without m bars s t x w.0 w.2)
 
-pub bar_granted : (m : Model) (bars : Bars) (s t : ℕ) → None ≡ bar_fault m bars s t → (s < m.states) × (has_other m bars s t ≡ true) × (length bars < 64)
+pub bar_granted : (m : Model) (bars : Bars) (s t : ℕ) → None ≡ bar_fault m bars s t → (s < m.states) × (has_other m bars s t ≡ true)
 bar_granted m bars s t e = search rules
 
-pub sound_push : {m : Model} → Lawful m → (bars : Bars) (s t : ℕ) → None ≡ bar_fault m bars s t → (more : Bars) → more ≡ bars ++ ((s, t) ∷ []) → Sound m bars → Sound m more
+pub unbar_granted : (m : Model) (bars : Bars) (s t : ℕ) → None ≡ unbar_fault m bars s t → s < m.states
+unbar_granted m bars s t e = search rules
+
+pub sound_push : {m : Model} → Lawful m → (bars : Bars) (s t : ℕ) → None ≡ bar_fault m bars s t → (more : Bars) → more ≡ bars ++ (step_of s t ∷ []) → Sound m bars → Sound m more
 sound_push {m} law bars s t e more is sound = rw is (sound_from_keeps law (keeps_push m bars sound.keeps s t (bar_granted m bars s t e).1))
 
 pub sound_without : {m : Model} → Lawful m → (bars : Bars) (s t : ℕ) (rest : Bars) → rest ≡ without bars s t → Sound m bars → Sound m rest
 sound_without {m} law bars s t rest is sound = rw is (sound_from_keeps law (keeps_without m bars sound.keeps s t))
+
+-- what a check's answer says of the fault
+pub refused_keeps : (fault : Option Fault) (f : Fault) (new old : Bars) → Err f ≡ unless fault (tt {0}) → old ≡ after fault new old
+refused_keeps None f new old e = absurd (cc)
+refused_keeps (Some f') f new old e = refl

@@ -1,17 +1,21 @@
 -- What a machine without some of its steps means.
-use Rattle.std.specs.Prelude.{◌≡◌, ℕ, zero, suc, ◌<◌, Bool, true, false, cond, not, ◌&&◌, ◌||◌, List, [], ◌∷◌, is_some, None, Option, ◌==◌, slice_index_or}
+use Rattle.std.specs.Prelude.{◌≡◌, ℕ, zero, suc, ◌<◌, Bool, true, false, cond, not, ◌&&◌, ◌||◌, List, filter, is_some, None, Option, ◌==◌, slice_index_or}
+use Rattle.std.specs.List.{list_any}
 use Rattle.machine.specs.Model.{Model}
+use Rattle.barred.specs.declared.steps.Step.{Step}
 
 -- the barred steps, each by the state it leaves and the state it enters
 abbrev pub Bars : Type 0
-Bars = List (ℕ × ℕ)
+Bars = List Step
 
-abbrev pub is_step : ℕ × ℕ → ℕ → ℕ → Bool
-is_step p s t = p.0 == s && p.1 == t
+abbrev pub step_of : ℕ → ℕ → Step
+step_of s t = record { from = s; to = t }
+
+abbrev pub is_step : Step → ℕ → ℕ → Bool
+is_step p s t = p.from == s && p.to == t
 
 abbrev pub is_barred : Bars → ℕ → ℕ → Bool
-is_barred [] s t = false
-is_barred (p ∷ ps) s t = is_step p s t || is_barred ps s t
+is_barred bars s t = list_any (λ p. is_step p s t) bars
 
 -- a step of the machine that is not barred
 abbrev pub is_open : Model → Bars → ℕ → ℕ → Bool
@@ -42,8 +46,7 @@ KeepsOut m bars = (s : ℕ) → s < m.states → has_open m bars s ≡ true
 
 -- the bars but that of the step from s to t
 abbrev pub without : Bars → ℕ → ℕ → Bars
-without [] s t = []
-without (p ∷ ps) s t = cond (is_step p s t) (without ps s t) (p ∷ without ps s t)
+without bars s t = filter (λ p. not (is_step p s t)) bars
 
 -- every state that a barred step leaves is marked
 abbrev pub Marked : List Bool → Bars → Type 0

@@ -1,2 +1,4 @@
 pub mod Bars
+pub mod Sound
+pub mod Laws
 pub mod Barring

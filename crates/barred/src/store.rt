@@ -1,16 +1,19 @@
-ghost use Rattle.std.specs.Prelude.{◌≡◌, ◌≤◌, length, take};
+ghost use Rattle.std.specs.Prelude.{◌≡◌, length};
 ghost use Rattle.barred.specs.Bars.{Marked};
+ghost use Rattle.barred.specs.Sound.{Sound};
 
-/// A machine without some of its steps.
+use crate::steps::Step;
+use arrayvec::ArrayVec;
+use machine::Machine;
+
+/// A machine without some of its steps, where every state keeps an open one.
 #[derive(Drop)]
-pub struct Barred<M> {
+pub struct Barred<M: Machine> {
     pub(crate) machine: M,
-    pub(crate) bars: [(u16, u16); 64],
-    pub(crate) len: usize,
-    // false only at states that no barred step leaves
+    pub(crate) bars: ArrayVec<Step, 64>,
+    // false only at states that no barred step leaves: a table for speed, since a question about such a state then looks at no bar
     pub(crate) touched: [bool; 1024],
-    ghost few: { len ≤ 64 },
-    ghost whole: { length bars ≡ 64 },
     ghost marks: { length touched ≡ 1024 },
-    ghost marked: { Marked touched (take len bars) },
+    ghost marked: { Marked touched bars.items },
+    ghost sound: { Sound (M.Machine.model machine) bars.items },
 }

@@ -1,6 +1,8 @@
 -- The fault table: the number and the layer of every reason, and what is printed of a fault.
 use Rattle.std.specs.Prelude.{ℕ, cond, List, ◌++◌, codes, decimal, nat_le}
 use Rattle.fault.specs.declared.Fault.{Fault}
+use Rattle.fault.specs.declared.Layer.{Layer}
+use Rattle.fault.specs.declared.Layer.TheVariants.{Sheet, Text, Cabinet, Search}
 use Rattle.fault.specs.declared.Reason.{Reason}
 use Rattle.fault.specs.declared.Reason.TheVariants.{BadMark, CutShort, BadCount, BadEntry, NoWayOut, LeftOver, TextTooLong, StrayByte, NotDerivable, UnknownName, TooManyParts, TooManyLetters, NoSuchCard, CardTaken, NoSuchState, NotThatStep, OnlyWayOut, BarsUsedUp, NothingToSeek, WorkTooShort, OutTooShort}
 
@@ -27,9 +29,15 @@ number_of NothingToSeek = 19
 number_of WorkTooShort = 20
 number_of OutTooShort = 21
 
--- 1 the sheet, 2 the rule text, 4 the search, 3 the cabinet and its machine
-abbrev pub layer_of : Reason → ℕ
-layer_of r = cond (nat_le (number_of r) 6) 1 (cond (nat_le (number_of r) 12) 2 (cond (nat_le 20 (number_of r)) 4 3))
+-- the layer that refuses
+abbrev pub layer_of : Reason → Layer
+layer_of r = cond (nat_le (number_of r) 6) Sheet (cond (nat_le (number_of r) 12) Text (cond (nat_le 20 (number_of r)) Search Cabinet))
+
+abbrev pub layer_number : Layer → ℕ
+layer_number Sheet = 1
+layer_number Text = 2
+layer_number Cabinet = 3
+layer_number Search = 4
 
 -- what is wrong, in words for an operator
 abbrev pub words_of : Reason → List ℕ
@@ -58,4 +66,4 @@ words_of OutTooShort = codes "the out list is too short for this rule"
 -- a fault's line: fault NUMBER layer LAYER place PLACE: what is wrong
 abbrev pub line_of : Fault → List ℕ
 line_of f =
-    codes "fault " ++ (decimal (number_of f.reason) ++ (codes " layer " ++ (decimal (layer_of f.reason) ++ (codes " place " ++ (decimal f.place ++ (codes ": " ++ words_of f.reason))))))
+    codes "fault " ++ (decimal (number_of f.reason) ++ (codes " layer " ++ (decimal (layer_number (layer_of f.reason)) ++ (codes " place " ++ (decimal f.place ++ (codes ": " ++ words_of f.reason))))))

@@ -1,34 +1,54 @@
 #![tactic(auto)]
 
 ghost use Rattle.std.specs.Prelude.{◌≡◌, Some};
-ghost use Rattle.fault.specs.Numbers.{number_of, layer_of, words_of, line_of};
+ghost use Rattle.fault.specs.Numbers.{number_of, layer_of, layer_number, words_of, line_of};
+ghost use Rattle.fault.specs.Refusals.{at};
 
+use std::error::Error;
 use std::fmt;
 
-/// Why a call is refused.
-#[derive(Clone, Copy, Debug)]
+/// The part of the observatory's rules that a refusal speaks of, under its published number.
+#[derive(Clone, Copy, Debug, PartialEq, Eq, PartialOrd, Ord)]
+pub enum Layer {
+    Sheet = 1,
+    Text = 2,
+    Cabinet = 3,
+    Search = 4,
+}
+
+impl Layer {
+    /// The number under which the layer is published.
+    pub fn number(self) -> u8
+        ensures { result ≡ layer_number self }
+    {
+        self as u8
+    }
+}
+
+/// Why a call is refused, under its published number.
+#[derive(Clone, Copy, Debug, PartialEq, Eq, PartialOrd, Ord)]
 pub enum Reason {
-    BadMark,
-    CutShort,
-    BadCount,
-    BadEntry,
-    NoWayOut,
-    LeftOver,
-    TextTooLong,
-    StrayByte,
-    NotDerivable,
-    UnknownName,
-    TooManyParts,
-    TooManyLetters,
-    NoSuchCard,
-    CardTaken,
-    NoSuchState,
-    NotThatStep,
-    OnlyWayOut,
-    BarsUsedUp,
-    NothingToSeek,
-    WorkTooShort,
-    OutTooShort,
+    BadMark = 1,
+    CutShort = 2,
+    BadCount = 3,
+    BadEntry = 4,
+    NoWayOut = 5,
+    LeftOver = 6,
+    TextTooLong = 7,
+    StrayByte = 8,
+    NotDerivable = 9,
+    UnknownName = 10,
+    TooManyParts = 11,
+    TooManyLetters = 12,
+    NoSuchCard = 13,
+    CardTaken = 14,
+    NoSuchState = 15,
+    NotThatStep = 16,
+    OnlyWayOut = 17,
+    BarsUsedUp = 18,
+    NothingToSeek = 19,
+    WorkTooShort = 20,
+    OutTooShort = 21,
 }
 
 impl Reason {
@@ -36,40 +56,29 @@ impl Reason {
     pub fn number(self) -> u8
         ensures { result ≡ number_of self }
     {
-        match self {
-            Reason::BadMark => 1,
-            Reason::CutShort => 2,
-            Reason::BadCount => 3,
-            Reason::BadEntry => 4,
-            Reason::NoWayOut => 5,
-            Reason::LeftOver => 6,
-            Reason::TextTooLong => 7,
-            Reason::StrayByte => 8,
-            Reason::NotDerivable => 9,
-            Reason::UnknownName => 10,
-            Reason::TooManyParts => 11,
-            Reason::TooManyLetters => 12,
-            Reason::NoSuchCard => 13,
-            Reason::CardTaken => 14,
-            Reason::NoSuchState => 15,
-            Reason::NotThatStep => 16,
-            Reason::OnlyWayOut => 17,
-            Reason::BarsUsedUp => 18,
-            Reason::NothingToSeek => 19,
-            Reason::WorkTooShort => 20,
-            Reason::OutTooShort => 21,
+        self as u8
+    }
+
+    /// The layer that refuses.
+    pub fn layer(self) -> Layer
+        ensures { result ≡ layer_of self }
+    {
+        // By number, since the published table gives each layer a block of numbers.
+        match self.number() {
+            1..=6 => Layer::Sheet,
+            7..=12 => Layer::Text,
+            20..=21 => Layer::Search,
+            _ => Layer::Cabinet,
         }
     }
 
-    /// The layer that refuses: 1 the sheet, 2 the rule text, 3 the cabinet and its machine, 4 the search.
-    pub fn layer(self) -> u8
-        ensures { result ≡ layer_of self }
+    /// A refusal for this reason.
+    pub fn at(self, place: usize) -> Fault
+        ensures { result ≡ at self place }
     {
-        match self.number() {
-            1..=6 => 1,
-            7..=12 => 2,
-            20..=21 => 4,
-            _ => 3,
+        Fault {
+            place,
+            reason: self,
         }
     }
 
@@ -103,21 +112,30 @@ impl Reason {
     }
 }
 
-/// A refusal: its reason, and the place that the reason speaks of.
-#[derive(Clone, Copy, Debug)]
+impl fmt::Display for Reason {
+    ghost output = { λ r. Some (words_of r) };
+
+    fn fmt<W: fmt::Write>(&self, f: &mut fmt::Formatter<W>) -> fmt::Result {
+        f.write_str(self.words())
+    }
+}
+
+/// A refusal: the place that it speaks of, and its reason. Of two, the less is the one to name first.
+#[derive(Clone, Copy, Debug, PartialEq, Eq, PartialOrd, Ord)]
 pub struct Fault {
-    pub reason: Reason,
     pub place: usize,
+    pub reason: Reason,
 }
 
 impl fmt::Display for Fault {
     ghost output = { λ f. Some (line_of f) };
 
     fn fmt<W: fmt::Write>(&self, f: &mut fmt::Formatter<W>) -> fmt::Result {
-        let number = self.reason.number();
-        let layer = self.reason.layer();
-        let place = self.place;
-        let words = self.reason.words();
-        write!(f, "fault {number} layer {layer} place {place}: {words}")
+        let Fault { place, reason } = self;
+        let number = reason.number();
+        let layer = reason.layer().number();
+        write!(f, "fault {number} layer {layer} place {place}: {reason}")
     }
 }
+
+impl Error for Fault {}

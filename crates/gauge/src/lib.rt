@@ -73,8 +73,8 @@ pub extern "C" fn gauge_pair(left: &[u8], right: &[u8], count: usize, seed: u64)
 pub extern "C" fn gauge_rule(text: &[u8]) -> u8
     ensures { Numbered (among (ring_model 12 5 3).names) text.now result }
 {
-    match rule::read(text, &Ring::new(12, 5, 3)) {
-        Ok(_) => 0,
-        Err(fault) => fault.reason.number(),
-    }
+    // 0 stands for a rule: C has no Option.
+    rule::read(text, &Ring::new(12, 5, 3))
+        .err()
+        .map_or(0, |fault| fault.reason.number())
 }

@@ -1,12 +1,13 @@
 -- A reader that walks over the words of a derived phrase stands behind it, with its parts and letters counted.
-use Rattle.std.proofs.Common.{◌≡◌, ℕ, ◌+◌, ◌<◌, ◌≤◌, Bool, true, List, [], ◌∷◌, ◌++◌, Some, None, Option, refl, ap, ◌∙◌, append_assoc, arith}
+use Rattle.std.proofs.Common.{◌≡◌, ℕ, ◌+◌, ◌<◌, ◌≤◌, Bool, true, List, [], ◌∷◌, ◌++◌, Some, None, Option, refl, ap, ◌∙◌, append_assoc, arith, rules}
+use Rattle.std.proofs.lemmas.Option.{option_and_then_some}
 use Rattle.logic.specs.Formulas.{Formula, Regular, size, parts, letter_parts, Each, EachLetter}
 use Rattle.grammar.specs.declared.Sign.TheVariants.{Open, Close, OpenSquare, CloseSquare, OpenCurly, CloseCurly, Dot, Bar, Star}
 use Rattle.grammar.specs.declared.Key.TheVariants.{True, False, Not, And, Or, Path, Cycle}
 use Rattle.grammar.specs.Words.{Word, sign, key, name}
 use Rattle.grammar.specs.Grammar.{Atom, atom_name, atom_true, atom_false, Phrase, State, Conj, Unary, Reg, Seq, Starred, Base, Derives, state_is, state_or, conj_is, conj_and, unary_not, unary_path, unary_cycle, unary_atom, unary_round, reg_is, reg_or, seq_is, seq_then, star_is, star_more, base_atom, base_curly, base_round}
 use Rattle.grammar.specs.Limits.{Bracket, square, curly, with_letter, after_word, with_word}
-use Rattle.grammar.specs.Judging.{state, ors, conj, ands, unary, reg, bars, seq, dots, starred, asts, Goal, expect, phrase, unary_at, base_at, then, step, Standing, standing, letter_fits, part_allowed, letter_allowed, moved, move_to, move, Apart}
+use Rattle.grammar.specs.Judging.{state, ors, conj, ands, unary, reg, bars, seq, dots, starred, asts, Goal, expect, phrase, unary_at, base_at, then, step, Standing, standing, letter_fits, part_allowed, letter_allowed, moved, move, Apart}
 
 -- a test passes all numbers below n
 abbrev pub Fits : (ℕ → Bool) → ℕ → Type 0
@@ -19,22 +20,23 @@ module _ (few small : ℕ → Bool) where
   walk s (w ∷ ws) = elim (move few small s w) [ Some t ↦ walk t ws | None ↦ None ]
 
   pub moves : (s : Standing) (w : Word) (τ : List Goal) → part_allowed few s.seen w ≡ true → letter_allowed small s.brackets w ≡ true → step s.goals w ≡ Some τ → move few small s w ≡ Some (moved τ s w)
-  moves s w τ a b c =
-      ap (λ x. move_to x (letter_allowed small s.brackets w) (step s.goals w) s w) a
-      ∙ ap (λ x. move_to true x (step s.goals w) s w) b
-      ∙ ap (λ x. move_to true true x s w) c
+  moves s w τ a b c = rw (a, b, c)
 
   pub walk_on : (s t : Standing) (w : Word) (ws : List Word) → move few small s w ≡ Some t → walk s (w ∷ ws) ≡ walk t ws
-  walk_on s t w ws e = ap (λ o. elim o [ Some t ↦ walk t ws | None ↦ None ]) e
+  walk_on s t w ws e = cc
+
+  -- the first word of a walk that comes through, and the walk over the others
+  pub walk_step : (s t : Standing) (w : Word) (ws : List Word) → walk s (w ∷ ws) ≡ Some t → (x : Standing) × (move few small s w ≡ Some x) × (walk x ws ≡ Some t)
+  walk_step s t w ws e = option_and_then_some (λ x. walk x ws) (move few small s w) t e (λ x m h. (x, m, h))
 
   pass : (g τ : List Goal) (n : ℕ) (κ : List Bracket) (w : Word) (ws : List Word) → part_allowed few n w ≡ true → letter_allowed small κ w ≡ true → step g w ≡ Some τ → walk (standing g n κ) (w ∷ ws) ≡ walk (standing τ (with_word w n) (after_word w κ)) ws
   pass g τ n κ w ws a b c = walk_on (standing g n κ) (standing τ (with_word w n) (after_word w κ)) w ws (moves (standing g n κ) w τ a b c)
 
   count_is : (σ : List Goal) (κ : List Bracket) (vs : List Word) (n m : ℕ) → n ≡ m → walk (standing σ n κ) vs ≡ walk (standing σ m κ) vs
-  count_is σ κ vs n m e = ap (λ k. walk (standing σ k κ) vs) e
+  count_is σ κ vs n m e = rw e
 
   letters_are : (σ : List Goal) (n : ℕ) (κ : List Bracket) (vs : List Word) (c d : ℕ) → c ≡ d → walk (standing σ n (square c ∷ κ)) vs ≡ walk (standing σ n (square d ∷ κ)) vs
-  letters_are σ n κ vs c d e = ap (λ k. walk (standing σ n (square k ∷ κ)) vs) e
+  letters_are σ n κ vs c d e = rw e
 
   -- as many letters as the expression has fit
   abbrev pub Small : Regular → Type 0
@@ -67,14 +69,10 @@ module _ (few small : ℕ → Bool) where
   fewer t m n h f i l = f i (omega arith)
 
   apart_fits : (κ : List Bracket) → Apart κ → letter_fits small κ ≡ true
-  apart_fits [] a = refl
-  apart_fits (square n ∷ κ) a = absurd a
-  apart_fits (curly ∷ κ) a = refl
+  apart_fits κ a = search rules
 
   apart_same : (κ : List Bracket) → Apart κ → with_letter κ ≡ κ
-  apart_same [] a = refl
-  apart_same (square n ∷ κ) a = absurd a
-  apart_same (curly ∷ κ) a = refl
+  apart_same κ a = search rules
 
   unary_one : {f : Formula} {w : Word} → Atom f w → FormulaPasses [] f (w ∷ [])
   unary_one (atom_name {w}) g τ n κ vs o a h s =

@@ -1,13 +1,12 @@
 -- A walk over the words tells whether some rule begins with them.
-use Rattle.std.proofs.Common.{◌≡◌, ℕ, Bool, true, false, cond, List, [], ◌∷◌, ◌++◌, Some, None, Option, sym, refl, ap, ◌∙◌, subst, zero-add, arith}
+use Rattle.std.proofs.Common.{◌≡◌, ℕ, Bool, true, false, List, [], ◌∷◌, ◌++◌, Some, None, Option, sym, refl, ap, ◌∙◌, zero-add, arith, append-nil, rules}
 use Rattle.logic.specs.Formulas.{Formula, Regular, parts, Each, EachLetter, name as named, top, bottom, neg, both, either, path, cycle, letter, seq, alt, star}
 use Rattle.grammar.specs.Words.{Word}
 use Rattle.grammar.specs.Grammar.{State, Derives, Begins}
-use Rattle.grammar.specs.Limits.{is_part, can_be_letter, Bracket, square, curly}
-use Rattle.grammar.specs.Judging.{state, ors, ands, phrase, Goal, step, Standing, standing, start, part_allowed, letter_allowed, letter_fits, moved, move_to, move}
-use Rattle.grammar.proofs.Passing.{walk, moves, walk_on, Fits, Small, through}
-use Rattle.grammar.proofs.Yielding.{Yields, backward, finish, append_nil}
-use Rattle.grammar.proofs.Options.{value_is, none_some}
+use Rattle.grammar.specs.Judging.{state, ors, ands, phrase, Goal, step, Standing, standing, start, part_allowed, letter_allowed, moved, move_to, move}
+use Rattle.grammar.proofs.Passing.{walk, moves, walk_step, Fits, Small, through}
+use Rattle.grammar.proofs.Yielding.{Yields, backward, finish}
+use Rattle.std.proofs.lemmas.Option.{same_Some}
 
 -- what a move needs and gives
 pub record Moved (few small : ℕ → Bool) (s : Standing) (w : Word) (t : Standing) : Type 0 where
@@ -21,82 +20,61 @@ pub told : (few small : ℕ → Bool) (s : Standing) (w : Word) (t : Standing) �
 told few small s w t e = go (part_allowed few s.seen w) refl (letter_allowed small s.brackets w) refl (step s.goals w) refl e
   where
     go : (a : Bool) → part_allowed few s.seen w ≡ a → (b : Bool) → letter_allowed small s.brackets w ≡ b → (o : Option (List Goal)) → step s.goals w ≡ o → move_to a b o s w ≡ Some t → Moved few small s w t
-    go true p true q (Some τ) r h = record { goals = τ; steps = r; is = sym (value_is (moved τ s w) t h); part_fit = p; letter_fit = q }
-    go true p true q None r h = none_some None t refl h
-    go true p false q o r h = none_some None t refl h
-    go false p b q o r h = none_some None t refl h
+    go true p true q (Some τ) r h = record { goals = τ; steps = r; is = sym (same_Some (moved τ s w) t h); part_fit = p; letter_fit = q }
+    go true p true q None r h = absurd cc
+    go true p false q o r h = absurd cc
+    go false p b q o r h = absurd cc
 
 -- no limits
 abbrev pub free : ℕ → Bool
 free n = true
 
-free_letter : (κ : List Bracket) → letter_fits free κ ≡ true
-free_letter [] = refl
-free_letter (square n ∷ κ) = refl
-free_letter (curly ∷ κ) = refl
-
-either_way : (b x : Bool) → x ≡ true → cond b x true ≡ true
-either_way true x e = e
-either_way false x e = refl
-
 pub free_moves : (s : Standing) (w : Word) (τ : List Goal) → step s.goals w ≡ Some τ → move free free s w ≡ Some (moved τ s w)
-free_moves s w τ e =
-    moves free free s w τ (either_way (is_part w) true refl) (either_way (can_be_letter w) (letter_fits free s.brackets) (free_letter s.brackets)) e
+free_moves s w τ e = moves free free s w τ (search rules) (search rules) e
 
 pub move_free : (few small : ℕ → Bool) (s : Standing) (w : Word) (t : Standing) → move few small s w ≡ Some t → move free free s w ≡ Some t
-move_free few small s w t e =
-    let k = told few small s w t e in free_moves s w k.goals k.steps ∙ ap Some (sym k.is)
+move_free few small s w t e = let k = told few small s w t e in let m = free_moves s w k.goals k.steps in cc
 
 module _ (few small : ℕ → Bool) where
   pub walk_join : (s t : Standing) (us vs : List Word) → walk few small s us ≡ Some t → walk few small s (us ++ vs) ≡ walk few small t vs
-  walk_join s t [] vs e = ap (λ x. walk few small x vs) (value_is s t e)
-  walk_join s t (u ∷ us) vs e = go (move few small s u) e (λ x. walk_join x t us vs)
-    where
-      go : (o : Option Standing) → elim o [ Some x ↦ walk few small x us | None ↦ None ] ≡ Some t → ((x : Standing) → walk few small x us ≡ Some t → walk few small x (us ++ vs) ≡ walk few small t vs) → elim o [ Some x ↦ walk few small x (us ++ vs) | None ↦ None ] ≡ walk few small t vs
-      go (Some x) h rest = rest x h
-      go None h rest = none_some None t refl h
+  walk_join s t [] vs e = ap (λ x. walk few small x vs) (same_Some s t e)
+  walk_join s t (u ∷ us) vs e = let x = walk_step few small s t u us e in let r = walk_join x.0 t us vs x.2 in cc
 
   -- a walk over two lists stops between them
   pub walk_front : (s t : Standing) (us vs : List Word) → walk few small s (us ++ vs) ≡ Some t → (u : Standing) × (walk few small s us ≡ Some u) × (walk few small u vs ≡ Some t)
   walk_front s t [] vs e = (s, refl, e)
-  walk_front s t (w ∷ us) vs e = go (move few small s w) e (λ x. walk_front x t us vs)
-    where
-      go : (o : Option Standing) → elim o [ Some x ↦ walk few small x (us ++ vs) | None ↦ None ] ≡ Some t → ((x : Standing) → walk few small x (us ++ vs) ≡ Some t → (u : Standing) × (walk few small x us ≡ Some u) × (walk few small u vs ≡ Some t)) → (u : Standing) × (elim o [ Some x ↦ walk few small x us | None ↦ None ] ≡ Some u) × (walk few small u vs ≡ Some t)
-      go (Some x) h rest = rest x h
-      go None h rest = none_some None t refl h
+  walk_front s t (w ∷ us) vs e =
+      let x = walk_step few small s t w (us ++ vs) e in
+      let r = walk_front x.0 t us vs x.2 in
+      (r.0, cc, r.2)
 
   pub walk_one : (s t : Standing) (w : Word) → walk few small s (w ∷ []) ≡ Some t → move few small s w ≡ Some t
-  walk_one s t w e = go (move few small s w) e
-    where
-      go : (o : Option Standing) → elim o [ Some x ↦ Some x | None ↦ None ] ≡ Some t → o ≡ Some t
-      go (Some x) h = h
-      go None h = h
+  walk_one s t w e = let x = walk_step few small s t w [] e in x.1 ∙ x.2
 
   pub walk_free : (s t : Standing) (us : List Word) → walk few small s us ≡ Some t → walk free free s us ≡ Some t
   walk_free s t [] e = e
-  walk_free s t (w ∷ us) e = go (move few small s w) refl e (λ x. walk_free x t us)
-    where
-      go : (o : Option Standing) → move few small s w ≡ o → elim o [ Some x ↦ walk few small x us | None ↦ None ] ≡ Some t → ((x : Standing) → walk few small x us ≡ Some t → walk free free x us ≡ Some t) → walk free free s (w ∷ us) ≡ Some t
-      go (Some x) m h rest = walk_on free free s x w us (move_free few small s w x m) ∙ rest x h
-      go None m h rest = none_some None t refl h
+  walk_free s t (w ∷ us) e =
+      let x = walk_step few small s t w us e in
+      let m = move_free few small s w x.0 x.1 in
+      let r = walk_free x.0 t us x.2 in
+      cc
 
   -- words that the last goals stand for, with those of the walk in front
   walk_yields : (s t : Standing) (us vs : List Word) → walk few small s us ≡ Some t → Yields t.goals vs → Yields s.goals (us ++ vs)
-  walk_yields s t [] vs e y = subst (λ x. Yields x.goals vs) (sym (value_is s t e)) y
-  walk_yields s t (w ∷ us) vs e y = go (move few small s w) refl e (λ x. walk_yields x t us vs)
-    where
-      go : (o : Option Standing) → move few small s w ≡ o → elim o [ Some x ↦ walk few small x us | None ↦ None ] ≡ Some t → ((x : Standing) → walk few small x us ≡ Some t → Yields t.goals vs → Yields x.goals (us ++ vs)) → Yields s.goals (w ∷ (us ++ vs))
-      go (Some x) m h rest =
-          let k = told few small s w x m in
-          backward s.goals w k.goals (us ++ vs) (subst (λ z. Yields z.goals (us ++ vs)) k.is (rest x h y)) k.steps
-      go None m h rest = none_some None t refl h
+  walk_yields s t [] vs e y = rw (same_Some s t e) y
+  walk_yields s t (w ∷ us) vs e y =
+      let x = walk_step few small s t w us e in
+      let k = told few small s w x.0 x.1 in
+      backward s.goals w k.goals (us ++ vs) (rw k.is at (walk_yields x.0 t us vs x.2 y)) k.steps
 
   -- where a walk comes through, some rule begins so
   pub begins : (t : Standing) (us : List Word) → walk few small start us ≡ Some t → Begins us
   begins t us e =
       let f = finish t.goals in
       let y = walk_yields start t us f.0 e f.1 in
-      (f.0, (y.3.0, subst (Derives (State y.3.0)) (sym (y.2 ∙ ap (λ x. y.0 ++ x) y.4 ∙ append_nil y.0)) y.3.1))
+      let all = append-nil y.0 in
+      let e : us ++ f.0 ≡ y.0 = cc in
+      (f.0, (y.3.0, rw e y.3.1))
 
 -- Where P holds of all expressions, it holds of each in a formula; and what follows from P holds where P does.
 mutual
@@ -140,7 +118,7 @@ behind n = standing (phrase ands ∷ phrase ors ∷ []) n []
 -- a rule is walked over to its end
 pub walked : (few small : ℕ → Bool) (f : Formula) (us : List Word) → Derives (State f) us → Fits few (parts f) → Each (Small few small) f → walk few small start us ≡ Some (behind (parts f))
 walked few small f us d h s =
-    ap (walk few small start) (sym (append_nil us))
+    ap (walk few small start) (sym (append-nil us))
     ∙ through few small d (phrase state ∷ []) [] 0 [] [] (λ w. refl) tt (λ i l. h i (omega arith)) s
     ∙ ap (λ n. Some (behind n)) (zero-add (parts f))
 

@@ -1,5 +1,5 @@
 -- The words that goals can stand for: every goals stand for some, and a step keeps them.
-use Rattle.std.proofs.Common.{◌≡◌, ℕ, Bool, true, false, cond, eqb, List, [], ◌∷◌, ◌++◌, Some, None, sym, refl, ap, ◌∙◌, subst, append_assoc, eqb-true}
+use Rattle.std.proofs.Common.{◌≡◌, Bool, true, false, cond, List, [], ◌∷◌, ◌++◌, Some, None, refl, ap, append_assoc, append-nil, rules}
 use Rattle.logic.specs.Formulas.{Formula, top, Regular, letter}
 use Rattle.grammar.specs.declared.Sign.{Sign}
 use Rattle.grammar.specs.declared.Sign.TheVariants.{Open, Close, OpenSquare, CloseSquare, OpenCurly, CloseCurly, Dot, Bar, Star}
@@ -7,8 +7,8 @@ use Rattle.grammar.specs.declared.Key.{Key}
 use Rattle.grammar.specs.declared.Key.TheVariants.{True, False, Not, And, Or, Path, Cycle}
 use Rattle.grammar.specs.Words.{Word, sign, key, name}
 use Rattle.grammar.specs.Grammar.{Atom, atom_name, atom_true, atom_false, Phrase, State, Conj, Unary, Reg, Seq, Starred, Base, Derives, state_is, state_or, conj_is, conj_and, unary_not, unary_path, unary_cycle, unary_atom, unary_round, reg_is, reg_or, seq_is, seq_then, star_is, star_more, base_atom, base_curly, base_round}
-use Rattle.grammar.specs.Judging.{Kind, state, ors, conj, ands, unary, reg, bars, seq, dots, starred, asts, base, Goal, expect, phrase, sign_code, is_sign, is_or, is_and, unary_at, base_at, then, step}
-use Rattle.grammar.proofs.Options.{value_is, none_some, opposite}
+use Rattle.grammar.specs.Judging.{Kind, state, ors, conj, ands, unary, reg, bars, seq, dots, starred, asts, base, Goal, expect, phrase, is_sign, is_or, is_and, unary_at, base_at, then, step}
+use Rattle.std.proofs.lemmas.Option.{same_Some}
 
 abbrev FormulaWords : (Formula → Phrase) → List Word → Type 0
 FormulaWords P us = (f : Formula) × Derives (P f) us
@@ -41,8 +41,7 @@ Yields (phrase k ∷ σ) ws = (us : List Word) × (vs : List Word) × (ws ≡ us
 
 -- a phrase, and then what carries it on
 carried : (k t j : Kind) (σ : List Goal) (ws : List Word) → ((us vs : List Word) → WordsOf k us → WordsOf t vs → WordsOf j (us ++ vs)) → Yields (phrase k ∷ phrase t ∷ σ) ws → Yields (phrase j ∷ σ) ws
-carried k t j σ ws glue (us, rest, e, d, y) =
-    (us ++ y.0, y.1, e ∙ ap (λ x. us ++ x) y.2 ∙ sym (append_assoc us y.0 y.1), glue us y.0 d y.3, y.4)
+carried k t j σ ws glue (us, rest, e, d, y) = (us ++ y.0, y.1, rw (e, y.2, append_assoc), glue us y.0 d y.3, y.4)
 
 as_state : (σ : List Goal) (ws : List Word) → Yields (phrase conj ∷ phrase ors ∷ σ) ws → Yields (phrase state ∷ σ) ws
 as_state σ ws = carried conj ors state σ ws (λ us vs d t. t us (d.0, state_is d.1))
@@ -59,75 +58,33 @@ as_seq σ ws = carried starred dots seq σ ws (λ us vs d t. t us (d.0, seq_is d
 as_starred : (σ : List Goal) (ws : List Word) → Yields (phrase base ∷ phrase asts ∷ σ) ws → Yields (phrase starred ∷ σ) ws
 as_starred σ ws = carried base asts starred σ ws (λ us vs d t. t us (d.0, star_is d.1))
 
-sign_at : ℕ → Sign
-sign_at n =
-    cond (eqb n 0) Open (cond (eqb n 1) Close (cond (eqb n 2) OpenSquare (cond (eqb n 3) CloseSquare (cond (eqb n 4) OpenCurly (cond (eqb n 5) CloseCurly (cond (eqb n 6) Dot (cond (eqb n 7) Bar Star)))))))
-
-sign_back : (s : Sign) → sign_at (sign_code s) ≡ s
-unfolding sign_at
-sign_back Open = refl
-sign_back Close = refl
-sign_back OpenSquare = refl
-sign_back CloseSquare = refl
-sign_back OpenCurly = refl
-sign_back CloseCurly = refl
-sign_back Dot = refl
-sign_back Bar = refl
-sign_back Star = refl
-
 pub sign_is : (s : Sign) (w : Word) → is_sign s w ≡ true → w ≡ sign s
-sign_is s (sign t) e = ap sign (sym (sign_back t) ∙ ap sign_at (sym (eqb-true (sign_code s) (sign_code t) e)) ∙ sign_back s)
-sign_is s (key k) e = opposite false e refl
-sign_is s (name w) e = opposite false e refl
+sign_is s w e = search rules
 
 pub or_is : (w : Word) → is_or w ≡ true → w ≡ key Or
-or_is (sign s) e = opposite false e refl
-or_is (key True) e = opposite false e refl
-or_is (key False) e = opposite false e refl
-or_is (key Not) e = opposite false e refl
-or_is (key And) e = opposite false e refl
-or_is (key Or) e = refl
-or_is (key (Path q)) e = opposite false e refl
-or_is (key (Cycle c)) e = opposite false e refl
-or_is (name w) e = opposite false e refl
+or_is w e = search rules
 
 pub and_is : (w : Word) → is_and w ≡ true → w ≡ key And
-and_is (sign s) e = opposite false e refl
-and_is (key True) e = opposite false e refl
-and_is (key False) e = opposite false e refl
-and_is (key Not) e = opposite false e refl
-and_is (key And) e = refl
-and_is (key Or) e = opposite false e refl
-and_is (key (Path q)) e = opposite false e refl
-and_is (key (Cycle c)) e = opposite false e refl
-and_is (name w) e = opposite false e refl
-
-pub append_nil : (us : List Word) → us ++ [] ≡ us
-append_nil [] = refl
-append_nil (u ∷ us) = ap (λ x. u ∷ x) (append_nil us)
+and_is w e = search rules
 
 -- nothing carries on anything
 nothing_more : (P : List Word → Type 0) → GoesOn P []
-nothing_more P us d = subst P (sym (append_nil us)) d
+nothing_more P us d = rw append-nil d
 
 -- a joint, what stands behind it, and what carries that on
 joint_more : (P Q : List Word → Type 0) (w : Word) → ((us vs : List Word) → P us → Q vs → P (us ++ w ∷ vs)) → (vs ws : List Word) → Q vs → GoesOn P ws → GoesOn P (w ∷ (vs ++ ws))
-joint_more P Q w join vs ws d on us e = subst P (append_assoc us (w ∷ vs) ws) (on (us ++ w ∷ vs) (join us vs e d))
+joint_more P Q w join vs ws d on us e = rw append_assoc at (on (us ++ w ∷ vs) (join us vs e d))
 
 module _ (σ : List Goal) (τ : List Goal) (ws : List Word) (y : Yields τ ws) where
   on : (π : List Goal) → Some π ≡ Some τ → Yields π ws
-  on π e = subst (λ x. Yields x ws) (sym (value_is π τ e)) y
+  on π e = rw (same_Some π τ e) y
 
   -- at a word that a goal of one sign, or of a joint, takes or passes
   sign_back_to : (s : Sign) (w : Word) → cond (is_sign s w) (Some σ) None ≡ Some τ → Yields (expect s ∷ σ) (w ∷ ws)
-  sign_back_to s w e = go (is_sign s w) refl e
-    where
-      go : (b : Bool) → is_sign s w ≡ b → cond b (Some σ) None ≡ Some τ → Yields (expect s ∷ σ) (w ∷ ws)
-      go true t h = (ws, ap (λ x. x ∷ ws) (sign_is s w t), on σ h)
-      go false t h = none_some None τ refl h
+  sign_back_to s w e = (ws, rw (sign_is s w (search rules)), on σ (search rules))
 
   tail_back : (t : Kind) (π : List Goal) (test : Bool) (w j : Word) → (test ≡ true → w ≡ j) → (Yields π ws → Yields (phrase t ∷ σ) (j ∷ ws)) → WordsOf t [] → (step σ w ≡ Some τ → Yields σ (w ∷ ws)) → cond test (Some π) (step σ w) ≡ Some τ → Yields (phrase t ∷ σ) (w ∷ ws)
-  tail_back t π true w j is more none rest e = subst (λ x. Yields (phrase t ∷ σ) (x ∷ ws)) (sym (is refl)) (more (on π e))
+  tail_back t π true w j is more none rest e = rw (is refl) (more (on π e))
   tail_back t π false w j is more none rest e = ([], w ∷ ws, refl, none, rest e)
 
   -- a phrase that is one atom
@@ -141,24 +98,12 @@ module _ (σ : List Goal) (τ : List Goal) (ws : List Word) (y : Yields τ ws) w
   closed : (k j : Kind) (s : Sign) (w : Word) → ((us : List Word) → WordsOf k us → WordsOf j (w ∷ us ++ sign s ∷ [])) → Some (phrase k ∷ expect s ∷ σ) ≡ Some τ → Yields (phrase j ∷ σ) (w ∷ ws)
   closed k j s w wrap e =
       let x = on (phrase k ∷ expect s ∷ σ) e in
-      let c = x.4 in (
-        w ∷ x.0 ++ sign s ∷ [],
-        c.0,
-        ap (λ l. w ∷ l) (x.2 ∙ ap (λ l. x.0 ++ l) c.1 ∙ sym (append_assoc x.0 (sign s ∷ []) c.0)),
-        wrap x.0 x.3,
-        c.2,
-      )
+      let c = x.4 in
+      let all = append_assoc x.0 (sign s ∷ []) c.0 in
+      (w ∷ x.0 ++ sign s ∷ [], c.0, cc, wrap x.0 x.3, c.2)
 
   unary_sign_back : (s : Sign) → then (unary_at (sign s)) σ ≡ Some τ → Yields (phrase unary ∷ σ) (sign s ∷ ws)
-  unary_sign_back Open e = closed state unary Close (sign Open) (λ us d. (d.0, unary_round d.1)) e
-  unary_sign_back Close e = none_some None τ refl e
-  unary_sign_back OpenSquare e = none_some None τ refl e
-  unary_sign_back CloseSquare e = none_some None τ refl e
-  unary_sign_back OpenCurly e = none_some None τ refl e
-  unary_sign_back CloseCurly e = none_some None τ refl e
-  unary_sign_back Dot e = none_some None τ refl e
-  unary_sign_back Bar e = none_some None τ refl e
-  unary_sign_back Star e = none_some None τ refl e
+  unary_sign_back s e = let round = closed state unary Close (sign Open) (λ us d. (d.0, unary_round d.1)) in search rules
 
   unary_key_back : (k : Key) → then (unary_at (key k)) σ ≡ Some τ → Yields (phrase unary ∷ σ) (key k ∷ ws)
   unary_key_back True e = unary_one top (key True) atom_true e
@@ -166,29 +111,21 @@ module _ (σ : List Goal) (τ : List Goal) (ws : List Word) (y : Yields τ ws) w
   unary_key_back Not e =
       let x = on (phrase unary ∷ σ) e in
       (key Not ∷ x.0, x.1, ap (λ l. key Not ∷ l) x.2, (_, unary_not x.3.1), x.4)
-  unary_key_back And e = none_some None τ refl e
-  unary_key_back Or e = none_some None τ refl e
+  unary_key_back And e = absurd cc
+  unary_key_back Or e = absurd cc
   unary_key_back (Path q) e =
       let x = on (expect OpenSquare ∷ phrase reg ∷ expect CloseSquare ∷ phrase unary ∷ σ) e in
       let r = x.2 in
       let c = r.4 in
-      let f = c.2 in (
-        key (Path q) ∷ sign OpenSquare ∷ r.0 ++ sign CloseSquare ∷ f.0,
-        f.1,
-        ap (λ l. key (Path q) ∷ l) (x.1 ∙ ap (λ l. sign OpenSquare ∷ l) (r.2 ∙ ap (λ l. r.0 ++ l) (c.1 ∙ ap (λ l. sign CloseSquare ∷ l) f.2) ∙ sym (append_assoc r.0 (sign CloseSquare ∷ f.0) f.1))),
-        (_, unary_path r.3.1 f.3.1),
-        f.4,
-      )
+      let f = c.2 in
+      let all = append_assoc r.0 (sign CloseSquare ∷ f.0) f.1 in
+      (key (Path q) ∷ sign OpenSquare ∷ r.0 ++ sign CloseSquare ∷ f.0, f.1, cc, (_, unary_path r.3.1 f.3.1), f.4)
   unary_key_back (Cycle k) e =
       let x = on (expect OpenSquare ∷ phrase reg ∷ expect CloseSquare ∷ σ) e in
       let r = x.2 in
-      let c = r.4 in (
-        key (Cycle k) ∷ sign OpenSquare ∷ r.0 ++ sign CloseSquare ∷ [],
-        c.0,
-        ap (λ l. key (Cycle k) ∷ l) (x.1 ∙ ap (λ l. sign OpenSquare ∷ l) (r.2 ∙ ap (λ l. r.0 ++ l) c.1 ∙ sym (append_assoc r.0 (sign CloseSquare ∷ []) c.0))),
-        (_, unary_cycle r.3.1),
-        c.2,
-      )
+      let c = r.4 in
+      let all = append_assoc r.0 (sign CloseSquare ∷ []) c.0 in
+      (key (Cycle k) ∷ sign OpenSquare ∷ r.0 ++ sign CloseSquare ∷ [], c.0, cc, (_, unary_cycle r.3.1), c.2)
 
   pub unary_back : (w : Word) → then (unary_at w) σ ≡ Some τ → Yields (phrase unary ∷ σ) (w ∷ ws)
   unary_back (sign s) e = unary_sign_back s e
@@ -196,24 +133,13 @@ module _ (σ : List Goal) (τ : List Goal) (ws : List Word) (y : Yields τ ws) w
   unary_back (name w) e = unary_one _ (name w) atom_name e
 
   base_sign_back : (s : Sign) → then (base_at (sign s)) σ ≡ Some τ → Yields (phrase base ∷ σ) (sign s ∷ ws)
-  base_sign_back Open e = closed reg base Close (sign Open) (λ us d. (d.0, base_round d.1)) e
-  base_sign_back Close e = none_some None τ refl e
-  base_sign_back OpenSquare e = none_some None τ refl e
-  base_sign_back CloseSquare e = none_some None τ refl e
-  base_sign_back OpenCurly e = closed state base CloseCurly (sign OpenCurly) (λ us d. (letter d.0, base_curly d.1)) e
-  base_sign_back CloseCurly e = none_some None τ refl e
-  base_sign_back Dot e = none_some None τ refl e
-  base_sign_back Bar e = none_some None τ refl e
-  base_sign_back Star e = none_some None τ refl e
+  base_sign_back s e =
+      let round = closed reg base Close (sign Open) (λ us d. (d.0, base_round d.1)) in
+      let curly = closed state base CloseCurly (sign OpenCurly) (λ us d. (letter d.0, base_curly d.1)) in
+      search rules
 
   base_key_back : (k : Key) → then (base_at (key k)) σ ≡ Some τ → Yields (phrase base ∷ σ) (key k ∷ ws)
-  base_key_back True e = base_one top (key True) atom_true e
-  base_key_back False e = base_one _ (key False) atom_false e
-  base_key_back Not e = none_some None τ refl e
-  base_key_back And e = none_some None τ refl e
-  base_key_back Or e = none_some None τ refl e
-  base_key_back (Path q) e = none_some None τ refl e
-  base_key_back (Cycle c) e = none_some None τ refl e
+  base_key_back k e = let t = base_one _ (key True) atom_true in let f = base_one _ (key False) atom_false in search rules
 
   pub base_back : (w : Word) → then (base_at w) σ ≡ Some τ → Yields (phrase base ∷ σ) (w ∷ ws)
   base_back (sign s) e = base_sign_back s e
@@ -222,28 +148,16 @@ module _ (σ : List Goal) (τ : List Goal) (ws : List Word) (y : Yields τ ws) w
 
 -- one more behind a joint
 joint_yields : (k t : Kind) (w : Word) (σ : List Goal) (ws : List Word) → ((vs us : List Word) → WordsOf k vs → WordsOf t us → WordsOf t (w ∷ (vs ++ us))) → Yields (phrase k ∷ phrase t ∷ σ) ws → Yields (phrase t ∷ σ) (w ∷ ws)
-joint_yields k t w σ ws join x =
-    let y = x.4 in (
-      w ∷ (x.0 ++ y.0),
-      y.1,
-      ap (λ l. w ∷ l) (x.2 ∙ ap (λ l. x.0 ++ l) y.2 ∙ sym (append_assoc x.0 y.0 y.1)),
-      join x.0 y.0 x.3 y.3,
-      y.4,
-    )
+joint_yields k t w σ ws join x = let y = x.4 in (w ∷ (x.0 ++ y.0), y.1, rw (x.2, y.2, append_assoc), join x.0 y.0 x.3 y.3, y.4)
 
 -- one more star
 star_yields : (σ : List Goal) (ws : List Word) → Yields (phrase asts ∷ σ) ws → Yields (phrase asts ∷ σ) (sign Star ∷ ws)
-star_yields σ ws x = (
-  sign Star ∷ x.0,
-  x.1,
-  ap (λ l. sign Star ∷ l) x.2,
-  (λ us d. subst (RegularWords Starred) (append_assoc us (sign Star ∷ []) x.0) (x.3 (us ++ sign Star ∷ []) (_, star_more d.1))),
-  x.4,
-)
+star_yields σ ws x =
+    (sign Star ∷ x.0, x.1, rw x.2, (λ us d. rw append_assoc at (x.3 (us ++ sign Star ∷ []) (_, star_more d.1))), x.4)
 
 -- what a step leaves, with the word in front
 pub backward : (σ : List Goal) (w : Word) (τ : List Goal) (ws : List Word) → Yields τ ws → step σ w ≡ Some τ → Yields σ (w ∷ ws)
-backward [] w τ ws y e = none_some None τ refl e
+backward [] w τ ws y e = absurd cc
 backward (expect s ∷ σ) w τ ws y e = sign_back_to σ τ ws y s w e
 backward (phrase state ∷ σ) w τ ws y e = as_state σ _ (as_conj (phrase ors ∷ σ) _ (unary_back (phrase ands ∷ phrase ors ∷ σ) τ ws y w e))
 backward (phrase ors ∷ σ) w τ ws y e =

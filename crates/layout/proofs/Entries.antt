@@ -1,27 +1,25 @@
 -- Entries one behind the other.
-use Rattle.std.proofs.Common.{◌≡◌, ℕ, zero, suc, ◌+◌, ◌<◌, ◌≤◌, List, ◌++◌, map, length, get_or, drop, sym, refl, ap, ◌∙◌, append_assoc, add-zero, add-one, arith}
+use Rattle.std.proofs.Common.{◌≡◌, ℕ, zero, suc, ◌+◌, ◌<◌, ◌≤◌, List, ◌++◌, map, length, get_or, drop, append_assoc, add-zero, add-one, arith}
 use Rattle.std.specs.List.{range_with_len, flat_map}
-use Rattle.std.proofs.lemmas.List.{drop_more, drop-drop, drop_at}
+use Rattle.std.proofs.lemmas.List.Prefix.{front_rest}
+use Rattle.std.proofs.lemmas.List.{drop_more, drop-drop}
 
 -- Where each entry stands in front of the next one's place, all of them stand in front of the last place.
 pub entries_from : {A : Type 0} (entry : A → List ℕ) (item : ℕ → A) (place : ℕ → ℕ) (bytes : List ℕ) (a n : ℕ) → ((i : ℕ) → a ≤ i → i < a + n → drop (place i) bytes ≡ entry (item i) ++ drop (place (i + 1)) bytes) → drop (place a) bytes ≡ flat_map entry (map item (range_with_len a n)) ++ drop (place (a + n)) bytes
-entries_from entry item place bytes a zero each = ap (λ k. drop (place k) bytes) (sym (add-zero a))
+entries_from entry item place bytes a zero each = rw add-zero
 entries_from entry item place bytes a (suc n) each =
     let here = each a (omega arith) (omega arith) in
     let more = entries_from entry item place bytes (a + 1) n (λ i l h. each i (omega arith) (omega arith)) in
     let e : a + 1 + n ≡ a + suc n = omega arith in
-    here ∙ ap (λ t. entry (item a) ++ t) (more ∙ ap (λ k. flat_map entry (map item (range_with_len (a + 1) n)) ++ drop (place k) bytes) e)
-    ∙ sym (append_assoc (entry (item a)) (flat_map entry (map item (range_with_len (a + 1) n))) (drop (place (a + suc n)) bytes))
+    rw (here, more, e, append_assoc)
 
 -- the first of the entries from i on
 pub entry_behind : {A : Type 0} (entry : A → List ℕ) (xs : List A) (d : A) (bytes rest : List ℕ) (o i : ℕ) → i < length xs → drop o bytes ≡ flat_map entry (drop i xs) ++ rest → drop o bytes ≡ entry (get_or xs i d) ++ (flat_map entry (drop (i + 1) xs) ++ rest)
-entry_behind entry xs d bytes rest o i h e =
-    e ∙ ap (λ ys. flat_map entry ys ++ rest) (drop_more xs i d h) ∙ append_assoc (entry (get_or xs i d)) (flat_map entry (drop (i + 1) xs)) rest
+entry_behind entry xs d bytes rest o i h e = rw (e, drop_more xs i d h, append_assoc)
 
 -- what stands behind the front
 pub behind_more : (bytes front rest : List ℕ) (o : ℕ) → drop o bytes ≡ front ++ rest → drop (o + length front) bytes ≡ rest
-behind_more bytes front rest o e =
-    sym (drop-drop (length front) o bytes) ∙ ap (λ ys. drop (length front) ys) e ∙ drop_at front rest (length front) refl
+behind_more bytes front rest o e = rw (← drop-drop (length front) o bytes) (front_rest (drop o bytes) front rest e)
 
 -- Where entries stand behind the first place, and each place follows from the entry before it, the others stand behind each place.
 pub entries_behind : {A : Type 0} (entry : A → List ℕ) (xs : List A) (d : A) (place : ℕ → ℕ) (bytes rest : List ℕ)

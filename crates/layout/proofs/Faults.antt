@@ -1,12 +1,11 @@
 -- The first of several faults.
-use Rattle.std.proofs.Common.{◌≡◌, ℕ, zero, suc, ◌+◌, ◌<◌, ◌≤◌, Bool, true, List, length, Some, None, Option, refl, ap, ◌∙◌, inl, inr, add-one, arith, rules}
-use Rattle.std.proofs.lemmas.Bool.{cases_lt, le-leb}
+use Rattle.std.proofs.Common.{◌≡◌, ℕ, zero, suc, ◌+◌, ◌<◌, ◌≤◌, Bool, true, List, length, Some, None, Option, refl, add-one, arith, rules}
+use Rattle.std.proofs.lemmas.Bool.{cases_lt}
 use Rattle.fault.specs.declared.Fault.{Fault}
 use Rattle.layout.specs.Judging.{◌▹◌, first_fault, field}
 
 pub then_none : (a b : Option Fault) → (a ▹ b) ≡ None → (a ≡ None) × (b ≡ None)
-then_none None b e = (refl, e)
-then_none (Some f) b e = let z : ◌≡◌ {A = ℕ} 0 1 = cc in absurd (omega arith)
+then_none a b e = search rules
 
 pub none_then : (a b : Option Fault) → a ≡ None → (a ▹ b) ≡ b
 none_then a b e = rw e
@@ -15,10 +14,10 @@ pub some_then : (a b : Option Fault) (f : Fault) → a ≡ Some f → (a ▹ b) 
 some_then a b f e = rw e
 
 pub field_none : (bytes : List ℕ) (o size : ℕ) (right : Bool) (f : Fault) → field bytes o size right f ≡ None → (o + size ≤ length bytes) × (right ≡ true)
-field_none bytes o size right f e = (search rules, search rules)
+field_none bytes o size right f e = search rules
 
 pub field_right : (bytes : List ℕ) (o size : ℕ) (right : Bool) (f : Fault) → o + size ≤ length bytes → right ≡ true → field bytes o size right f ≡ None
-field_right bytes o size right f h e = rw (le-leb (o + size) (length bytes) h, e)
+field_right bytes o size right f h e = search rules
 
 -- the entries before n have none, nor has this one
 pub first_more : (n : ℕ) (fault : ℕ → Option Fault) → first_fault n fault ≡ None → fault n ≡ None → first_fault (n + 1) fault ≡ None
@@ -29,8 +28,7 @@ pub first_each : (n : ℕ) (fault : ℕ → Option Fault) → first_fault n faul
 unfolding first_fault
 first_each zero fault e i h = absurd (omega arith)
 first_each (suc n) fault e i h =
-    let p = then_none (first_fault n fault) (fault n) e in
-    elim (cases_lt i n) [ inl l ↦ first_each n fault p.0 i l | inr k ↦ let q : i ≡ n = omega arith in ap fault q ∙ p.1 ]
+    let p = then_none (first_fault n fault) (fault n) e in let before = first_each n fault p.0 i in grind arith
 
 pub first_none : (n : ℕ) (fault : ℕ → Option Fault) → ((i : ℕ) → i < n → fault i ≡ None) → first_fault n fault ≡ None
 unfolding first_fault
@@ -40,7 +38,4 @@ first_none (suc n) fault h = rw (first_none n fault (λ i l. h i (omega arith)))
 pub first_here : (n i : ℕ) (fault : ℕ → Option Fault) (f : Fault) → i < n → first_fault i fault ≡ None → fault i ≡ Some f → first_fault n fault ≡ Some f
 unfolding first_fault
 first_here zero i fault f h e s = absurd (omega arith)
-first_here (suc n) i fault f h e s = elim (cases_lt i n) [
-  | inl l ↦ some_then (first_fault n fault) (fault n) f (first_here n i fault f l e s)
-  | inr k ↦ let q : i ≡ n = omega arith in rw (← q, e) s
-]
+first_here (suc n) i fault f h e s = let c = cases_lt i n in let before = first_here n i fault f in search (rules, some_then)

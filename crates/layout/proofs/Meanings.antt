@@ -1,12 +1,11 @@
 -- What a sheet means keeps the laws of machines.
-use Rattle.std.proofs.Common.{◌≡◌, ℕ, ◌/◌, ◌%◌, ◌^◌, true, List, length, is_some, Some, None, Option, sym, refl, ap, ◌∙◌, inl, inr, arith}
-use native.Mathlib.Nat.{zero-div}
+use Rattle.std.proofs.Common.{◌≡◌, ℕ, true, List, length, is_some, Some, None, Option, refl, rules}
 use Rattle.std.proofs.lemmas.List.{get_or_past}
-use Rattle.std.proofs.lemmas.Bool.{cases_lt, false≢true, eqb-true}
+use Rattle.std.proofs.lemmas.Bool.{cases_lt}
 use Rattle.fault.specs.declared.Fault.{Fault}
 use Rattle.machine.specs.Model.{Lawful, empty}
 use Rattle.machine.proofs.Laws.{empty_lawful}
-use Rattle.layout.specs.Descriptions.{Description, label_of, step_of, Proper, place_from, has_bit, borne, meaning}
+use Rattle.layout.specs.Descriptions.{Description, label_of, step_of, Proper, place_from, borne, meaning}
 use Rattle.layout.specs.Encoding.{encode}
 use Rattle.layout.specs.Fields.{described}
 use Rattle.layout.specs.Judging.{sheet_fault, meaning_unless, sheet_model}
@@ -16,32 +15,24 @@ use Rattle.layout.proofs.Lookups.{seconds_place, seconds_some, place_among}
 use Rattle.layout.proofs.Reading.{encodes, proper}
 use Rattle.layout.proofs.Writing as writing
 
-no_bit : (b : ℕ) → has_bit 0 b ≡ true → ⊥
-no_bit b e =
-    let z : 0 / 2 ^ b % 2 ≡ 0 = ap (λ x. x % 2) (zero-div (2 ^ b)) in
-    omega (arith, eqb-true (0 / 2 ^ b % 2) 1 e)
-
 borne_so : (o : Option ℕ) (label : ℕ) → borne o label ≡ true → (is_some o ≡ true) × (label ≡ 0 → ⊥)
-borne_so None label e = absurd (false≢true e)
-borne_so (Some b) label e = (refl, λ z. no_bit b (ap (λ l. has_bit l b) (sym z) ∙ e))
+borne_so o label e = search rules
 
 pub meaning_lawful : (d : Description) → Proper d → Lawful (meaning d)
 meaning_lawful d p = record {
   few_states = p.few_states;
   few_names = p.few_names;
-  joins = λ s t x e.
-      let r = seconds_place d.steps s t x e in
-      let j = p.joins r.0 r.1 in
-      (omega (arith, r.2, j.0), omega (arith, r.3, j.1), omega (arith, r.4, j.2));
+  joins = λ s t x e. let r = seconds_place d.steps s t x e in let j = p.joins r.0 r.1 in search rules;
   leaves = λ s h.
       let r = p.leaves s h in
       let f = seconds_some d.steps r.0 s (step_of d r.0).to r.1 r.2 refl in
       ((step_of d r.0).to, f.0, f.1);
   listed = λ s w e.
-      let b = borne_so (place_from 0 d.names w) (label_of d s) e in (
-        elim (cases_lt s (length d.labels)) [ inl l ↦ l | inr g ↦ absurd (b.1 (get_or_past d.labels s 0 g)) ],
-        sym (place_among 0 d.names w) ∙ b.0,
-      );
+      let b = borne_so (place_from 0 d.names w) (label_of d s) e in
+      let one = place_among 0 d.names w in
+      let c = cases_lt s (length d.labels) in
+      let past = get_or_past d.labels s 0 in
+      search rules;
 }
 
 pub sheet_lawful : (bytes : List ℕ) → Bytes bytes → Lawful (sheet_model bytes)
@@ -56,11 +47,13 @@ pub faultless_encodes : (bytes : List ℕ) → Bytes bytes → sheet_fault bytes
 faultless_encodes bytes ok e = let g = faultless bytes e in (described bytes, proper bytes ok g, encodes bytes ok g)
 
 pub encoding_faultless : (bytes : List ℕ) (d : Description) → Proper d → encode d ≡ bytes → sheet_fault bytes ≡ None
-encoding_faultless bytes d p e = ap sheet_fault (sym e) ∙ no_fault (encode d) (writing.faultless d p)
+encoding_faultless bytes d p e = rw (← e, no_fault (encode d) (writing.faultless d p))
 
 pub encoding_means : (bytes : List ℕ) (d : Description) → Proper d → encode d ≡ bytes → sheet_model bytes ≡ meaning d
 encoding_means bytes d p e =
-    ap (λ o. meaning_unless o bytes) (encoding_faultless bytes d p e) ∙ ap (λ b. meaning (described b)) (sym e) ∙ ap meaning (writing.says d)
+    let fault = encoding_faultless bytes d p e in
+    let says = writing.says d in
+    cc
 
 -- bytes that encode no proper description mean nothing
 pub nothing_means : (bytes : List ℕ) → Bytes bytes → ((d : Description) → Proper d → encode d ≡ bytes → ⊥) → sheet_model bytes ≡ empty

@@ -1,16 +1,18 @@
 -- The bytes of a faultless sheet encode a proper description: the one that its fields say.
-use Rattle.std.proofs.Common.{◌≡◌, ℕ, zero, suc, ◌+◌, ◌-◌, ◌<◌, ◌≤◌, true, false, ◌&&◌, eqb, ltb, List, [], ◌∷◌, ◌++◌, map, length, get_or, take, drop, codes, sym, ap, ◌∙◌, inl, inr, append-nil, zero-add, add-one, arith, length-drop}
+use Rattle.std.proofs.Common.{◌≡◌, ℕ, zero, suc, ◌+◌, ◌<◌, ◌≤◌, true, false, eqb, List, [], ◌++◌, map, length, get_or, take, drop, codes, sym, refl, ap, ◌∙◌, inl, inr, append-nil, zero-add, add-one, arith, rules}
 use Rattle.std.specs.List.{range_with_len, flat_map}
 use Rattle.std.specs.Str.{bytes_eq}
+use Rattle.std.proofs.lemmas.Grind.{common_steps}
+use Rattle.std.proofs.lemmas.List.Recursion.{or_at}
 use Rattle.std.proofs.lemmas.List.FromFn.{length-map-range_with_len, get_or-map-range_with_len}
 use Rattle.std.proofs.lemmas.Slice.Eq.{bytes_eq-Decides}
-use Rattle.std.proofs.lemmas.List.{take-append-drop, drop-drop, drop_more, drop_all, length-take-le}
-use Rattle.std.proofs.lemmas.Bool.{or_cases, or_left, or_right, and_parts, ltb-true, eqb-true, both_ways, false≢true}
+use Rattle.std.proofs.lemmas.List.{take-append-drop, drop-drop, drop_more, drop_all}
+use Rattle.std.proofs.lemmas.Bool.{or_cases, false≢true}
 use Rattle.machine.specs.Model.{among}
 use Rattle.layout.specs.Descriptions.{Step, no_step, name_of, label_of, step_of, Precedes, Proper}
 use Rattle.layout.specs.Encoding.{two_bytes, four_bytes, name_entry, step_entry, encode}
-use Rattle.layout.specs.Fields.{byte_at, u16_at, state_count, name_count, name_at, word_at, name_in, labels_at, label_at, label_in, step_count_at, step_count, step_at, step_in, sheet_end, described}
-use Rattle.layout.specs.Judging.{repeats, precedes, in_order, some_leave}
+use Rattle.layout.specs.Fields.{byte_at, state_count, name_count, name_at, word_at, name_in, labels_at, label_at, label_in, step_count_at, step_count, step_at, step_in, sheet_end, described}
+use Rattle.layout.specs.Judging.{repeats, in_order, some_leave}
 use Rattle.layout.proofs.Numbers.{Bytes, u16_below, two_bytes_at, four_bytes_at}
 use Rattle.layout.proofs.Entries.{entries_from}
 use Rattle.layout.proofs.Faultless.{Faultless, GoodName, GoodLabel, GoodStep}
@@ -20,7 +22,7 @@ unfolding name_at
 name_at_next bytes i = ap (name_at bytes) (add-one i)
 
 word_length : (bytes : List ℕ) (o : ℕ) → o + 1 + byte_at bytes o ≤ length bytes → length (word_at bytes o) ≡ byte_at bytes o
-word_length bytes o h = length-take-le (byte_at bytes o) (drop (o + 1) bytes) (omega (arith, length-drop (o + 1) bytes))
+word_length bytes o h = grind (arith, common_steps)
 
 -- an entry stands in front of the place of the next one
 name_here : (bytes : List ℕ) (i : ℕ) → GoodName bytes i → drop (name_at bytes i) bytes ≡ name_entry (name_in bytes i) ++ drop (name_at bytes (i + 1)) bytes
@@ -31,12 +33,13 @@ name_here bytes i g =
     let split = take-append-drop (byte_at bytes o) (drop (o + 1) bytes) in
     let rest = drop-drop (byte_at bytes o) (o + 1) bytes in
     let first = drop_more bytes o 0 (omega arith) in
-    rw (name_at_next bytes i) (first ∙ ap (λ t. byte_at bytes o ∷ t) (sym split ∙ ap (λ t. word_at bytes o ++ t) rest) ∙ ap (λ k. k ∷ (word_at bytes o ++ drop (o + 1 + byte_at bytes o) bytes)) (sym len))
+    let next = name_at_next bytes i in
+    cc
 
 label_here : (bytes : List ℕ) → Bytes bytes → (s : ℕ) → GoodLabel bytes s → drop (label_at bytes s) bytes ≡ four_bytes (label_in bytes s) ++ drop (label_at bytes (s + 1)) bytes
 label_here bytes ok s g =
     let e : label_at bytes s + 4 ≡ label_at bytes (s + 1) = omega arith in
-    four_bytes_at bytes ok (label_at bytes s) g.room ∙ ap (λ k. four_bytes (label_in bytes s) ++ drop k bytes) e
+    rw (← e) (four_bytes_at bytes ok (label_at bytes s) g.room)
 
 step_here : (bytes : List ℕ) → Bytes bytes → (i : ℕ) → GoodStep bytes i → drop (step_at bytes i) bytes ≡ step_entry (step_in bytes i) ++ drop (step_at bytes (i + 1)) bytes
 step_here bytes ok i g =
@@ -47,11 +50,10 @@ step_here bytes ok i g =
     let c = two_bytes_at bytes ok (o + 4) (omega arith) in
     let p : o + 2 + 2 ≡ o + 4 = omega arith in
     let q : o + 4 + 2 ≡ step_at bytes (i + 1) = omega arith in
-    a ∙ ap (λ t. two_bytes (u16_at bytes o) ++ t) (b ∙ ap (λ k. two_bytes (u16_at bytes (o + 2)) ++ drop k bytes) p
-    ∙ ap (λ t. two_bytes (u16_at bytes (o + 2)) ++ t) (c ∙ ap (λ k. two_bytes (u16_at bytes (o + 4)) ++ drop k bytes) q))
+    rw (a, b, p, c, q)
 
 mark_here : (bytes : List ℕ) → take 3 bytes ≡ codes "MOD" → bytes ≡ codes "MOD" ++ drop 3 bytes
-mark_here bytes e = sym (take-append-drop 3 bytes) ∙ ap (λ t. t ++ drop 3 bytes) e
+mark_here bytes e = let whole = take-append-drop 3 bytes in cc
 
 -- what stands behind each part of the sheet
 abbrev step_bytes : List ℕ → List ℕ
@@ -73,11 +75,10 @@ steps_suffix bytes ok g =
     let start : step_count_at bytes + 2 ≡ step_at bytes 0 = omega arith in
     let end : step_at bytes (0 + m) ≡ sheet_end bytes = omega arith in
     let none = drop_all (sheet_end bytes) bytes g.ends in
-    ap (λ k. drop k bytes) start ∙ all ∙ ap (λ t. step_bytes bytes ++ t) (ap (λ k. drop k bytes) end ∙ none) ∙ append-nil (step_bytes bytes)
+    rw (start, all, end, none, append-nil)
 
 count_suffix : (bytes : List ℕ) → Bytes bytes → Faultless bytes → drop (step_count_at bytes) bytes ≡ count_bytes bytes
-count_suffix bytes ok g =
-    two_bytes_at bytes ok (step_count_at bytes) g.count_room ∙ ap (λ t. two_bytes (step_count bytes) ++ t) (steps_suffix bytes ok g)
+count_suffix bytes ok g = rw (two_bytes_at bytes ok (step_count_at bytes) g.count_room, steps_suffix bytes ok g)
 
 labels_suffix : (bytes : List ℕ) → Bytes bytes → Faultless bytes → drop (labels_at bytes) bytes ≡ label_bytes bytes
 labels_suffix bytes ok g =
@@ -85,27 +86,30 @@ labels_suffix bytes ok g =
     let all = entries_from four_bytes (label_in bytes) (label_at bytes) bytes 0 n (λ s _ h. label_here bytes ok s (g.label s (omega arith))) in
     let start : labels_at bytes ≡ label_at bytes 0 = omega arith in
     let end : label_at bytes (0 + n) ≡ step_count_at bytes = omega arith in
-    ap (λ k. drop k bytes) start ∙ all ∙ ap (λ t. flat_map four_bytes (described bytes).labels ++ t) (ap (λ k. drop k bytes) end ∙ count_suffix bytes ok g)
+    let rest = count_suffix bytes ok g in
+    cc
 
 names_suffix : (bytes : List ℕ) → Bytes bytes → Faultless bytes → drop 8 bytes ≡ name_bytes bytes
 unfolding name_at
 names_suffix bytes ok g =
     let k = name_count bytes in
     let all = entries_from name_entry (name_in bytes) (name_at bytes) bytes 0 k (λ i _ h. name_here bytes i (g.name i (omega arith))) in
-    let end : name_at bytes (0 + k) ≡ labels_at bytes = ap (name_at bytes) (zero-add k) in
-    all ∙ ap (λ t. flat_map name_entry (described bytes).names ++ t) (ap (λ k. drop k bytes) end ∙ labels_suffix bytes ok g)
+    rw (all, zero-add, labels_suffix bytes ok g)
 
 -- the bytes are the encoding of what they say
 pub encodes : (bytes : List ℕ) → Bytes bytes → Faultless bytes → encode (described bytes) ≡ bytes
 encodes bytes ok g =
     let room = g.header.room in
-    let version = two_bytes_at bytes ok 3 (omega arith) ∙ ap (λ x. two_bytes x ++ drop 5 bytes) g.header.version in
+    let mark = mark_here bytes g.header.mark in
+    let version = two_bytes_at bytes ok 3 (omega arith) in
+    let one = g.header.version in
     let states = two_bytes_at bytes ok 5 (omega arith) in
     let count = drop_more bytes 7 0 (omega arith) in
+    let names = names_suffix bytes ok g in
     let n = length-map-range_with_len (label_in bytes) 0 (state_count bytes) in
     let k = length-map-range_with_len (name_in bytes) 0 (name_count bytes) in
     let m = length-map-range_with_len (step_in bytes) 0 (step_count bytes) in
-    rw (n, k, m) (sym (mark_here bytes g.header.mark ∙ ap (λ t. codes "MOD" ++ t) (version ∙ ap (λ t. two_bytes 1 ++ t) (states ∙ ap (λ t. two_bytes (state_count bytes) ++ t) (count ∙ ap (λ t. name_count bytes ∷ t) (names_suffix bytes ok g))))))
+    cc
 
 pub name_reads : (bytes : List ℕ) (i : ℕ) → i < name_count bytes → name_of (described bytes) i ≡ name_in bytes i
 name_reads bytes i h = get_or-map-range_with_len (name_in bytes) 0 (name_count bytes) i i [] h (zero-add i)
@@ -118,34 +122,22 @@ step_reads bytes i h = get_or-map-range_with_len (step_in bytes) 0 (step_count b
 
 -- a name that stands earlier is among the earlier ones
 pub among_at : (ns : List (List ℕ)) (i : ℕ) (w : List ℕ) → i < length ns → get_or ns i [] ≡ w → among ns w ≡ true
-among_at [] i w h e = absurd (omega arith)
-among_at (n ∷ ns) zero w h e = or_left (bytes_eq n w) (among ns w) ((bytes_eq-Decides n w).1 e)
-among_at (n ∷ ns) (suc i) w h e = or_right (bytes_eq n w) (among ns w) (among_at ns i w (omega arith) e)
+among_at ns i w h e = or_at (λ ms. among ms w) (λ n. bytes_eq n w) refl (λ _ _. refl) ns i [] h ((bytes_eq-Decides _ w).1 e)
 
 apart : (bytes : List ℕ) (i j : ℕ) → i < j → repeats bytes j ≡ false → name_in bytes i ≡ name_in bytes j → ⊥
 apart bytes i j h fresh e =
-    let long = length-map-range_with_len (name_in bytes) 0 j in
-    both_ways (repeats bytes j) fresh
-    (among_at (map (name_in bytes) (range_with_len 0 j)) i (name_in bytes j) (omega arith) (get_or-map-range_with_len (name_in bytes) 0 j i i [] h (zero-add i) ∙ e))
-
-pub precedes_so : (e f : Step) → precedes e f ≡ true → Precedes e f
-precedes_so e f h = elim (or_cases (ltb e.from f.from) (eqb e.from f.from && ltb e.to f.to) h) [
-  | inl y ↦ inl (ltb-true e.from f.from y)
-  | inr n ↦ let p = and_parts (eqb e.from f.from) (ltb e.to f.to) n in inr (eqb-true e.from f.from p.0, ltb-true e.to f.to p.1)
-]
+    let again = among_at (map (name_in bytes) (range_with_len 0 j)) i (name_in bytes j) in
+    grind (arith, length-map-range_with_len (name_in bytes) 0 j, get_or-map-range_with_len (name_in bytes) 0 j i i [] h (zero-add i))
 
 pub in_order_next : (bytes : List ℕ) (i : ℕ) → in_order bytes (i + 1) ≡ true → Precedes (step_in bytes i) (step_in bytes (i + 1))
-in_order_next bytes i h = elim (or_cases (eqb (i + 1) 0) (precedes (step_in bytes (i + 1 - 1)) (step_in bytes (i + 1))) h) [
-  | inl y ↦ absurd (omega (arith, eqb-true (i + 1) 0 y))
-  | inr n ↦ let e : i + 1 - 1 ≡ i = omega arith in precedes_so (step_in bytes i) (step_in bytes (i + 1)) (ap (λ k. precedes (step_in bytes k) (step_in bytes (i + 1))) (sym e) ∙ n)
-]
+in_order_next bytes i h = search rules
 
 pub one_leaves : (bytes : List ℕ) (s m : ℕ) → some_leave bytes s m ≡ true → (i : ℕ) × (i < m) × ((step_in bytes i).from ≡ s)
 unfolding some_leave
 one_leaves bytes s zero e = absurd (false≢true e)
 one_leaves bytes s (suc m) e = elim (or_cases (some_leave bytes s m) (eqb (step_in bytes m).from s) e) [
   | inl y ↦ let r = one_leaves bytes s m y in (r.0, omega (arith, r.1), r.2)
-  | inr n ↦ (m, omega arith, eqb-true (step_in bytes m).from s n)
+  | inr n ↦ (m, omega arith, search rules)
 ]
 
 pub proper : (bytes : List ℕ) → Bytes bytes → Faultless bytes → Proper (described bytes)

@@ -1,19 +1,19 @@
 -- The encoding of a proper description has no fault, and its fields say that description.
-use Rattle.std.proofs.Common.{◌≡◌, ℕ, zero, suc, ◌+◌, ◌-◌, ◌/◌, ◌%◌, ◌<◌, ◌≤◌, true, false, ◌&&◌, eqb, ltb, List, [], ◌∷◌, ◌++◌, map, length, get_or, drop, sym, refl, ap, ◌∙◌, inl, inr, append-nil, add-zero, mul_comm, zero-add, add-one, arith, length-drop}
+use Rattle.std.proofs.Common.{◌≡◌, ℕ, zero, suc, ◌+◌, ◌-◌, ◌/◌, ◌%◌, ◌<◌, ◌≤◌, true, false, eqb, List, [], ◌∷◌, ◌++◌, map, length, get_or, drop, sym, refl, ap, ◌∙◌, append-nil, add-zero, zero-add, add-one, arith, length-drop, rules}
 use Rattle.std.specs.List.{range_with_len, flat_map}
 use Rattle.std.specs.Str.{bytes_eq}
-use Rattle.std.proofs.lemmas.Nat.{div-add-mod'}
 use Rattle.std.proofs.lemmas.List.FromFn.{fill_by_all, length-map-range_with_len, get_or-map-range_with_len}
-use Rattle.std.proofs.lemmas.Slice.Eq.{bytes_eq-Decides}
+use Rattle.std.proofs.lemmas.List.Prefix.{at_reads}
 use Rattle.std.proofs.lemmas.List.{drop_all, take_at}
-use Rattle.std.proofs.lemmas.Bool.{cases_lt, cases_Bool, or_cases, or_left, or_right, and_from, lt-ltb, eq-eqb, false≢true}
+use Rattle.std.proofs.lemmas.Bool.{cases_lt, or_right}
+use Rattle.std.proofs.lemmas.List.Recursion.{or_from_places}
+use Rattle.std.proofs.lemmas.Slice.Eq.{bytes_eq-Decides}
 use Rattle.machine.specs.Model.{among}
-use Rattle.machine.specs.Names.{is_name}
 use Rattle.layout.specs.Descriptions.{Step, Description, no_step, name_of, label_of, step_of, Precedes, Proper}
 use Rattle.layout.specs.Encoding.{two_bytes, four_bytes, name_entry, step_entry, encode}
 use Rattle.layout.specs.Fields.{byte_at, u16_at, u32_at, state_count, name_count, name_at, word_at, name_in, labels_at, label_at, label_in, step_count_at, step_count, step_at, step_in, described}
 use Rattle.layout.specs.Judging.{repeats, precedes, in_order, some_leave}
-use Rattle.layout.proofs.Numbers.{byte_behind, room_behind, u16_behind, whole}
+use Rattle.layout.proofs.Numbers.{room_behind, u16_behind}
 use Rattle.layout.proofs.Entries.{entry_behind, behind_more, entries_behind}
 use Rattle.layout.proofs.Faultless.{Faultless, GoodHeader, GoodName, GoodLabel, GoodStep}
 use Rattle.layout.proofs.Reading.{name_at_next}
@@ -21,64 +21,29 @@ use Rattle.layout.proofs.Reading.{name_at_next}
 -- what the bytes of one entry say
 word_behind : (bytes w tail : List ℕ) (o : ℕ) → drop o bytes ≡ name_entry w ++ tail → (byte_at bytes o ≡ length w) × (word_at bytes o ≡ w)
 word_behind bytes w tail o e =
-    let len = rw add-zero at (byte_behind bytes (name_entry w) tail o 0 e (omega arith)) in
+    let len = rw add-zero at (at_reads 0 bytes (name_entry w) o tail e 0 (omega arith)) in
     let word : drop (o + 1) bytes ≡ w ++ tail = behind_more bytes (length w ∷ []) (w ++ tail) o e in
-    (len, rw (len, word) (take_at w tail (length w) refl))
+    (len, rw (len, word, take_at w tail (length w) refl))
 
 u32_behind : (bytes rest : List ℕ) (o x : ℕ) → drop o bytes ≡ four_bytes x ++ rest → u32_at bytes o ≡ x
 u32_behind bytes rest o x e =
     let low = u16_behind bytes (two_bytes (x / 65536) ++ rest) o (x % 65536) e in
     let high = u16_behind bytes rest (o + 2) (x / 65536) (behind_more bytes (two_bytes (x % 65536)) (two_bytes (x / 65536) ++ rest) o e) in
-    omega (arith, low, high, div-add-mod' x 65536, mul_comm (x / 65536) 65536)
+    omega (arith, low, high)
 
 step_behind : (bytes rest : List ℕ) (o : ℕ) (s : Step) → drop o bytes ≡ step_entry s ++ rest → (u16_at bytes o ≡ s.from) × (u16_at bytes (o + 2) ≡ s.to) × (u16_at bytes (o + 4) ≡ s.seconds)
 step_behind bytes rest o s e =
     let second = behind_more bytes (two_bytes s.from) (two_bytes s.to ++ (two_bytes s.seconds ++ rest)) o e in
-    let third = behind_more bytes (two_bytes s.from ++ two_bytes s.to) (two_bytes s.seconds ++ rest) o e in (
-      u16_behind bytes (two_bytes s.to ++ (two_bytes s.seconds ++ rest)) o s.from e,
-      u16_behind bytes (two_bytes s.seconds ++ rest) (o + 2) s.to second,
-      u16_behind bytes rest (o + 4) s.seconds third,
-    )
-
--- a name has a first letter
-name_some : (w : List ℕ) → is_name w ≡ true → 1 ≤ length w
-name_some [] e = absurd (false≢true e)
-name_some (b ∷ bs) e = omega arith
-
-among_place : (ns : List (List ℕ)) (w : List ℕ) → among ns w ≡ true → (i : ℕ) × (i < length ns) × (get_or ns i [] ≡ w)
-among_place [] w e = absurd (false≢true e)
-among_place (n ∷ ns) w e = elim (or_cases (bytes_eq n w) (among ns w) e) [
-  | inl y ↦ (0, omega arith, (bytes_eq-Decides n w).0 y)
-  | inr more ↦ let r = among_place ns w more in (suc r.0, omega (arith, r.1), r.2)
-]
+    let third = behind_more bytes (two_bytes s.from ++ two_bytes s.to) (two_bytes s.seconds ++ rest) o e in
+    search u16_behind
 
 precedes_true : (e f : Step) → Precedes e f → precedes e f ≡ true
-precedes_true e f (inl l) = or_left (ltb e.from f.from) (eqb e.from f.from && ltb e.to f.to) (lt-ltb e.from f.from l)
-precedes_true e f (inr r) =
-    or_right (ltb e.from f.from) (eqb e.from f.from && ltb e.to f.to)
-    (and_from (eqb e.from f.from) (ltb e.to f.to) (eq-eqb e.from f.from r.0) (lt-ltb e.to f.to r.1))
+precedes_true e f h = search rules
 
 leave_true : (bytes : List ℕ) (s m i : ℕ) → i < m → (step_in bytes i).from ≡ s → some_leave bytes s m ≡ true
 unfolding some_leave
 leave_true bytes s zero i h e = absurd (omega arith)
-leave_true bytes s (suc m) i h e = elim (cases_lt i m) [
-  | inl l ↦ or_left (some_leave bytes s m) (eqb (step_in bytes m).from s) (leave_true bytes s m i l e)
-  | inr g ↦ let q : i ≡ m = omega arith in or_right (some_leave bytes s m) (eqb (step_in bytes m).from s) (eq-eqb (step_in bytes m).from s (ap (λ k. (step_in bytes k).from) (sym q) ∙ e))
-]
-
-same_step : (e f : Step) → e.from ≡ f.from → e.to ≡ f.to → e.seconds ≡ f.seconds → e ≡ f
-same_step e f p q r =
-    let one : ℕ → Step = λ x. record { from = x; to = e.to; seconds = e.seconds } in
-    let two : ℕ → Step = λ x. record { from = f.from; to = x; seconds = e.seconds } in
-    let three : ℕ → Step = λ x. record { from = f.from; to = f.to; seconds = x } in
-    ap one p ∙ ap two q ∙ ap three r
-
-same_description : (c d : Description) → c.names ≡ d.names → c.labels ≡ d.labels → c.steps ≡ d.steps → c ≡ d
-same_description c d p q r =
-    let one : List (List ℕ) → Description = λ x. record { names = x; labels = c.labels; steps = c.steps } in
-    let two : List ℕ → Description = λ x. record { names = d.names; labels = x; steps = c.steps } in
-    let three : List Step → Description = λ x. record { names = d.names; labels = d.labels; steps = x } in
-    ap one p ∙ ap two q ∙ ap three r
+leave_true bytes s (suc m) i h e = let c = cases_lt i m in let before = leave_true bytes s m i in search rules
 
 module _ (d : Description) where
   abbrev bytes : List ℕ
@@ -91,7 +56,7 @@ module _ (d : Description) where
   label_bytes = flat_map four_bytes d.labels ++ (two_bytes (length d.steps) ++ step_bytes)
 
   states_read : state_count bytes ≡ length d.labels
-  states_read = whole (length d.labels)
+  states_read = omega arith
 
   name_next : (i : ℕ) (tail : List ℕ) → i < length d.names → drop (name_at bytes i) bytes ≡ name_entry (name_of d i) ++ tail → name_at bytes (i + 1) ≡ name_at bytes i + length (name_entry (name_of d i))
   name_next i tail h e = omega (arith, name_at_next bytes i, (word_behind bytes (name_of d i) tail (name_at bytes i) e).0)
@@ -102,27 +67,30 @@ module _ (d : Description) where
 
   labels_start : drop (labels_at bytes) bytes ≡ label_bytes
   labels_start =
-      names_behind (length d.names) (omega arith)
-      ∙ ap (λ ns. flat_map name_entry ns ++ label_bytes) (drop_all (length d.names) d.names (omega arith))
+      let behind = names_behind (length d.names) (omega arith) in
+      let none = drop_all (length d.names) d.names (omega arith) in
+      cc
 
   labels_behind : (s : ℕ) → s ≤ length d.labels → drop (label_at bytes s) bytes ≡ flat_map four_bytes (drop s d.labels) ++ (two_bytes (length d.steps) ++ step_bytes)
   labels_behind =
-      entries_behind four_bytes d.labels 0 (label_at bytes) bytes (two_bytes (length d.steps) ++ step_bytes) (λ s tail h e. omega arith)
-      (ap (λ o. drop o bytes) {x = label_at bytes 0} {y = labels_at bytes} (omega arith) ∙ labels_start)
+      let e : label_at bytes 0 ≡ labels_at bytes = omega arith in
+      entries_behind four_bytes d.labels 0 (label_at bytes) bytes (two_bytes (length d.steps) ++ step_bytes) (λ s tail h e. omega arith) (rw (e, labels_start))
 
   count_behind : drop (step_count_at bytes) bytes ≡ two_bytes (length d.steps) ++ step_bytes
   count_behind =
-      ap (λ n. drop (label_at bytes n) bytes) states_read ∙ labels_behind (length d.labels) (omega arith)
-      ∙ ap (λ ls. flat_map four_bytes ls ++ (two_bytes (length d.steps) ++ step_bytes)) (drop_all (length d.labels) d.labels (omega arith))
+      let behind = labels_behind (length d.labels) (omega arith) in
+      let none = drop_all (length d.labels) d.labels (omega arith) in
+      let n = states_read in
+      cc
 
   count_read : step_count bytes ≡ length d.steps
   count_read = u16_behind bytes step_bytes (step_count_at bytes) (length d.steps) count_behind
 
   steps_behind : (i : ℕ) → i ≤ length d.steps → drop (step_at bytes i) bytes ≡ flat_map step_entry (drop i d.steps) ++ []
   steps_behind =
-      entries_behind step_entry d.steps no_step (step_at bytes) bytes [] (λ i tail h e. omega arith)
-      (ap (λ o. drop o bytes) {x = step_at bytes 0} {y = step_count_at bytes + 2} (omega arith)
-      ∙ behind_more bytes (two_bytes (length d.steps)) step_bytes (step_count_at bytes) count_behind ∙ sym (append-nil step_bytes))
+      let e : step_at bytes 0 ≡ step_count_at bytes + 2 = omega arith in
+      let start = behind_more bytes (two_bytes (length d.steps)) step_bytes (step_count_at bytes) count_behind in
+      entries_behind step_entry d.steps no_step (step_at bytes) bytes [] (λ i tail h e. omega arith) (rw (e, start, append-nil))
 
   -- each entry, with what stands behind it
   name_here : (i : ℕ) → i < length d.names → drop (name_at bytes i) bytes ≡ name_entry (name_of d i) ++ (flat_map name_entry (drop (i + 1) d.names) ++ label_bytes)
@@ -141,30 +109,33 @@ module _ (d : Description) where
   label_read s h = u32_behind bytes _ (label_at bytes s) (label_of d s) (label_here s h)
 
   step_read : (i : ℕ) → i < length d.steps → step_in bytes i ≡ step_of d i
-  step_read i h = let r = step_behind bytes _ (step_at bytes i) (step_of d i) (step_here i h) in same_step (step_in bytes i) (step_of d i) r.0 r.1 r.2
+  step_read i h = let r = step_behind bytes _ (step_at bytes i) (step_of d i) (step_here i h) in search rules
 
   pub says : described bytes ≡ d
-  says = same_description (described bytes) d
-      (sym (fill_by_all (name_in bytes) d.names (name_count bytes) [] refl (λ i h. sym (name_read i h))))
-      (sym (fill_by_all (label_in bytes) d.labels (state_count bytes) 0 (sym states_read) (λ s h. sym (label_read s (omega (arith, states_read))))))
-      (sym (fill_by_all (step_in bytes) d.steps (step_count bytes) no_step (sym count_read) (λ i h. sym (step_read i (omega (arith, count_read))))))
+  says =
+      let n = fill_by_all (name_in bytes) d.names (name_count bytes) [] refl (λ i h. sym (name_read i h)) in
+      let l = fill_by_all (label_in bytes) d.labels (state_count bytes) 0 (sym states_read) (λ s h. sym (label_read s (omega (arith, states_read)))) in
+      let m = fill_by_all (step_in bytes) d.steps (step_count bytes) no_step (sym count_read) (λ i h. sym (step_read i (omega (arith, count_read)))) in
+      search rules
 
 module _ (d : Description) (p : Proper d) where
   good_header : GoodHeader (encode d)
   good_header =
       let n = states_read d in
-      record { mark = refl; version = refl; some_states = rw n p.some_states; few_states = rw n p.few_states; few_names = p.few_names; room = omega arith }
+      record { mark = refl; version = refl; some_states = search rules; few_states = search rules; few_names = p.few_names; room = omega arith }
 
   fresh : (i : ℕ) → i < length d.names → repeats (encode d) i ≡ false
-  fresh i h = elim (cases_Bool (repeats (encode d) i)) [
-    | inr no_more ↦ no_more
-    | inl again ↦
-        let r = among_place (map (name_in (encode d)) (range_with_len 0 i)) (name_in (encode d) i) again in
-        let j = r.0 in
-        let lt : j < i = omega (arith, r.1, length-map-range_with_len (name_in (encode d)) 0 i) in
-        let at = get_or-map-range_with_len (name_in (encode d)) 0 i j j [] lt (zero-add j) in
-        absurd (p.distinct j i lt h (sym (name_read d j (omega arith)) ∙ sym at ∙ r.2 ∙ name_read d i h))
-  ]
+  fresh i h =
+      let name = name_in (encode d) in
+      or_from_places (λ ns. among ns (name i)) (λ n. bytes_eq n (name i)) refl (λ _ _. refl) (map name (range_with_len 0 i)) []
+      (λ j l.
+      let lt : j < i = omega (arith, length-map-range_with_len name 0 i) in
+      let at = get_or-map-range_with_len name 0 i j j [] lt (zero-add j) in
+      let a = name_read d j (omega arith) in
+      let b = name_read d i h in
+      let new = p.distinct j i lt h in
+      let same = bytes_eq-Decides (get_or (map name (range_with_len 0 i)) j []) (name i) in
+      search rules)
 
   good_name : (i : ℕ) → i < length d.names → GoodName (encode d) i
   good_name i h =
@@ -173,13 +144,9 @@ module _ (d : Description) (p : Proper d) where
       let len = (word_behind (encode d) (name_of d i) _ o here).0 in
       let named = p.named i h in
       let room = room_behind (encode d) (name_entry (name_of d i)) _ o here (omega arith) in
-      record {
-        low = omega (arith, len, name_some (name_of d i) named.0);
-        high = omega (arith, len, named.1);
-        room = omega (arith, len, room);
-        word = ap is_name (name_read d i h) ∙ named.0;
-        fresh = fresh i h;
-      }
+      let read = name_read d i h in
+      let new = fresh i h in
+      search rules
 
   good_label : (s : ℕ) → s < length d.labels → GoodLabel (encode d) s
   good_label s h = record {
@@ -194,19 +161,16 @@ module _ (d : Description) (p : Proper d) where
       let a = step_read d i (omega arith) in
       let b = step_read d (suc i) h in
       let q = precedes_true (step_of d i) (step_of d (suc i)) (rw add-one at (p.ascending i (omega arith))) in
-      or_right (eqb (suc i) 0) (precedes (step_in (encode d) (suc i - 1)) (step_in (encode d) (suc i)))
-      (ap (λ k. precedes (step_in (encode d) k) (step_in (encode d) (suc i))) e ∙ ap (λ f. precedes f (step_in (encode d) (suc i))) a ∙ ap (λ f. precedes (step_of d i) f) b ∙ q)
+      or_right (eqb (suc i) 0) (precedes (step_in (encode d) (suc i - 1)) (step_in (encode d) (suc i))) (cc)
 
   good_step : (i : ℕ) → i < length d.steps → GoodStep (encode d) i
   good_step i h =
       let r = step_behind (encode d) _ (step_at (encode d) i) (step_of d i) (step_here d i h) in
       let joins = p.joins i h in
-      record {
-        room = room_behind (encode d) (step_entry (step_of d i)) _ (step_at (encode d) i) (step_here d i h) (omega arith);
-        from = omega (arith, r.0, joins.0, states_read d);
-        to = omega (arith, r.1, joins.1, states_read d);
-        order = order i h;
-      }
+      let room = room_behind (encode d) (step_entry (step_of d i)) _ (step_at (encode d) i) (step_here d i h) (omega arith) in
+      let n = states_read d in
+      let in_turn = order i h in
+      search rules
 
   pub faultless : Faultless (encode d)
   faultless =

@@ -1,5 +1,5 @@
 -- Words of a position automaton, sign by sign, and that they are what an expression matches.
-use Rattle.std.proofs.Common.{◌≡◌, ℕ, zero, suc, ◌+◌, ◌<◌, ◌≤◌, ◌⊎◌, ◌↔◌, refl, ◌∙◌, subst, inl, inr, ⊎_elim, arith}
+use Rattle.std.proofs.Common.{◌≡◌, ℕ, zero, suc, ◌+◌, ◌<◌, ◌≤◌, ◌⊎◌, ◌↔◌, refl, ◌∙◌, inl, inr, ⊎_elim, arith, rules}
 use Rattle.machine.specs.Model.{Model}
 use Rattle.logic.specs.Formulas.{Formula, Regular, letter, seq, alt, star, size}
 use Rattle.logic.specs.Meaning.{Power, Sat, Match}
@@ -36,38 +36,15 @@ pub record Inside (a : Positions) (lo hi : ℕ) : Type 0 where
   pub behind : (p q : ℕ) → a.follow p q → (lo ≤ q) × (q < hi)
 
 pub inside : (r : Regular) (o : ℕ) → Inside (positions r o) o (o + size r)
-inside (letter f) o = record { first = λ p e. omega arith; last = λ p e. omega arith; before = λ p q e. absurd e; behind = λ p q e. absurd e }
-inside (seq r q) o =
-    let A = inside r o in
-    let B = inside q (o + size r) in
-    record {
-      first = λ p. ⊎_elim (λ x. omega (arith, A.first p x)) (λ x. omega (arith, B.first p x.1));
-      last = λ p. ⊎_elim (λ x. omega (arith, B.last p x)) (λ x. omega (arith, A.last p x.1));
-      before = λ p t. ⊎_elim (λ x. omega (arith, A.before p t x)) (⊎_elim (λ x. omega (arith, B.before p t x)) (λ x. omega (arith, A.last p x.0)));
-      behind = λ p t. ⊎_elim (λ x. omega (arith, A.behind p t x)) (⊎_elim (λ x. omega (arith, B.behind p t x)) (λ x. omega (arith, B.first t x.1)));
-    }
-inside (alt r q) o =
-    let A = inside r o in
-    let B = inside q (o + size r) in
-    record {
-      first = λ p. ⊎_elim (λ x. omega (arith, A.first p x)) (λ x. omega (arith, B.first p x));
-      last = λ p. ⊎_elim (λ x. omega (arith, A.last p x)) (λ x. omega (arith, B.last p x));
-      before = λ p t. ⊎_elim (λ x. omega (arith, A.before p t x)) (λ x. omega (arith, B.before p t x));
-      behind = λ p t. ⊎_elim (λ x. omega (arith, A.behind p t x)) (λ x. omega (arith, B.behind p t x));
-    }
-inside (star r) o =
-    let A = inside r o in
-    record {
-      first = A.first;
-      last = A.last;
-      before = λ p t. ⊎_elim (A.before p t) (λ x. A.last p x.0);
-      behind = λ p t. ⊎_elim (A.behind p t) (λ x. A.first t x.1);
-    }
+inside (letter f) o = search rules
+inside (seq r q) o = let a = inside r o in let b = inside q (o + size r) in search rules
+inside (alt r q) o = let a = inside r o in let b = inside q (o + size r) in search rules
+inside (star r) o = let a = inside r o in search rules
 
 pub reads_inside : (m : Model) (s : ℕ) (r : Regular) (o p : ℕ) → Reads m s r o p → (o ≤ p) × (p < o + size r)
 reads_inside m s (letter f) o p w = omega (arith, w.0)
-reads_inside m s (seq r q) o p w = ⊎_elim (λ x. omega (arith, reads_inside m s r o p x)) (λ x. omega (arith, reads_inside m s q (o + size r) p x)) w
-reads_inside m s (alt r q) o p w = ⊎_elim (λ x. omega (arith, reads_inside m s r o p x)) (λ x. omega (arith, reads_inside m s q (o + size r) p x)) w
+reads_inside m s (seq r q) o p w = let a = reads_inside m s r o p in let b = reads_inside m s q (o + size r) p in search rules
+reads_inside m s (alt r q) o p w = let a = reads_inside m s r o p in let b = reads_inside m s q (o + size r) p in search rules
 reads_inside m s (star r) o p w = reads_inside m s r o p w
 
 -- a word of a, whose signs are in D, is a word of c
@@ -104,16 +81,10 @@ apart m π r q o = record {
 
 module _ {a b : Positions} {R S : Reading} {lo mid hi : ℕ} (s : Apart a b R S lo mid hi) where
   choice_a : (n p i j : ℕ) → p < mid → From (choice a b) (Both R S) n p i j → From a R n p i j
-  choice_a = carry (choice a b) a (Both R S) R (λ p. p < mid)
-      (λ k p d. ⊎_elim (λ x. x) (λ x. absurd (omega (arith, s.reads_back k p x))))
-      (λ p d. ⊎_elim (λ x. x) (λ x. absurd (omega (arith, s.back.last p x))))
-      (λ p q d. ⊎_elim (λ x. (x, (s.front.behind p q x).1)) (λ x. absurd (omega (arith, s.back.before p q x))))
+  choice_a = carry (choice a b) a (Both R S) R (λ p. p < mid) (λ k p d w. search rules) (λ p d w. search rules) (λ p q d w. search rules)
 
   choice_b : (n p i j : ℕ) → mid ≤ p → From (choice a b) (Both R S) n p i j → From b S n p i j
-  choice_b = carry (choice a b) b (Both R S) S (λ p. mid ≤ p)
-      (λ k p d. ⊎_elim (λ x. absurd (omega (arith, s.reads_front k p x))) (λ x. x))
-      (λ p d. ⊎_elim (λ x. absurd (omega (arith, s.front.last p x))) (λ x. x))
-      (λ p q d. ⊎_elim (λ x. absurd (omega (arith, s.front.before p q x))) (λ x. (x, (s.back.behind p q x).0)))
+  choice_b = carry (choice a b) b (Both R S) S (λ p. mid ≤ p) (λ k p d w. search rules) (λ p d w. search rules) (λ p q d w. search rules)
 
   a_choice : (n p i j : ℕ) → From a R n p i j → From (choice a b) (Both R S) n p i j
   a_choice n p i j = carry a (choice a b) R (Both R S) (λ p. Unit {0}) (λ k p d. inl) (λ p d. inl) (λ p q d x. (inl x, tt)) n p i j tt
@@ -130,19 +101,14 @@ module _ {a b : Positions} {R S : Reading} {lo mid hi : ℕ} (s : Apart a b R S 
       w.1
 
   choice_left : (i j : ℕ) → Walk a R i j → Walk (choice a b) (Both R S) i j
-  choice_left i j (inl w) = inl (inl w.0, w.1)
-  choice_left i j (inr w) = inr (w.0, inl w.1, (w.2.0, a_choice w.2.0 w.0 i j w.2.1))
+  choice_left i j w = search (rules, a_choice)
 
   choice_right : (i j : ℕ) → Walk b S i j → Walk (choice a b) (Both R S) i j
-  choice_right i j (inl w) = inl (inr w.0, w.1)
-  choice_right i j (inr w) = inr (w.0, inr w.1, (w.2.0, b_choice w.2.0 w.0 i j w.2.1))
+  choice_right i j w = search (rules, b_choice)
 
   -- a word that is in b stays there
   joined_b : (n p i j : ℕ) → mid ≤ p → From (joined a b) (Both R S) n p i j → From b S n p i j
-  joined_b = carry (joined a b) b (Both R S) S (λ p. mid ≤ p)
-      (λ k p d. ⊎_elim (λ x. absurd (omega (arith, s.reads_front k p x))) (λ x. x))
-      (λ p d. ⊎_elim (λ x. x) (λ x. absurd (omega (arith, s.front.last p x.1))))
-      (λ p q d. ⊎_elim (λ x. absurd (omega (arith, s.front.before p q x))) (⊎_elim (λ x. (x, (s.back.behind p q x).0)) (λ x. absurd (omega (arith, s.front.last p x.0)))))
+  joined_b = carry (joined a b) b (Both R S) S (λ p. mid ≤ p) (λ k p d w. search rules) (λ p d w. search rules) (λ p q d w. search rules)
 
   b_joined : (n p i j : ℕ) → From b S n p i j → From (joined a b) (Both R S) n p i j
   b_joined n p i j = carry b (joined a b) S (Both R S) (λ p. Unit {0}) (λ k p d. inr) (λ p d. inl) (λ p q d x. (inr (inl x), tt)) n p i j tt
@@ -150,10 +116,10 @@ module _ {a b : Positions} {R S : Reading} {lo mid hi : ℕ} (s : Apart a b R S 
   -- a word that begins in a goes on in a up to some k, and what follows is a word of b
   joined_a : (n p i j : ℕ) → p < mid → From (joined a b) (Both R S) n p i j → (k : ℕ) × ((c : ℕ) × From a R c p i k) × Walk b S k j
   joined_a zero p i j h w =
-      let r : R i p = ⊎_elim (λ x. x) (λ x. absurd (omega (arith, s.reads_back i p x))) w.0 in
+      let r : R i p = search rules in
       ⊎_elim (λ l. absurd (omega (arith, s.back.last p l))) (λ l. (j, (zero, (r, l.1, w.2)), inl (l.0, refl))) w.1
   joined_a (suc n) p i j h w =
-      let r : R i p = ⊎_elim (λ x. x) (λ x. absurd (omega (arith, s.reads_back i p x))) w.0 in
+      let r : R i p = search rules in
       let q : ℕ = w.1.0 in
       ⊎_elim
       (λ f. let t = joined_a n q (suc i) j (s.front.behind p q f).1 w.1.2 in (t.0, (suc t.1.0, (r, (q, f, t.1.1))), t.2))
@@ -164,9 +130,7 @@ module _ {a b : Positions} {R S : Reading} {lo mid hi : ℕ} (s : Apart a b R S 
 
   a_joined : (n p i k j : ℕ) → From a R n p i k → Walk b S k j → (c : ℕ) × From (joined a b) (Both R S) c p i j
   a_joined zero p i k j w (inl e) = (zero, (inl w.0, inr (e.0, w.1), e.1 ∙ w.2))
-  a_joined zero p i k j w (inr f) =
-      let rest = subst (λ x. From (joined a b) (Both R S) f.2.0 f.0 x j) w.2 (b_joined f.2.0 f.0 k j f.2.1) in
-      (suc f.2.0, (inl w.0, (f.0, inr (inr (w.1, f.1)), rest)))
+  a_joined zero p i k j w (inr f) = (suc f.2.0, (inl w.0, (f.0, inr (inr (w.1, f.1)), rw w.2 at (b_joined f.2.0 f.0 k j f.2.1))))
   a_joined (suc n) p i k j w e =
       let t = a_joined n w.1.0 (suc i) k j w.1.2 e in
       (suc t.0, (inl w.0, (w.1.0, inl w.1.1, t.1)))
@@ -181,9 +145,7 @@ module _ {a b : Positions} {R S : Reading} {lo mid hi : ℕ} (s : Apart a b R S 
 
   joined_glue : (i k j : ℕ) → Walk a R i k → Walk b S k j → Walk (joined a b) (Both R S) i j
   joined_glue i k j (inl w) (inl v) = inl ((w.0, v.0), v.1 ∙ w.1)
-  joined_glue i k j (inl w) (inr v) =
-      let rest = subst (λ x. From (joined a b) (Both R S) v.2.0 v.0 x j) w.1 (b_joined v.2.0 v.0 k j v.2.1) in
-      inr (v.0, inr (w.0, v.1), (v.2.0, rest))
+  joined_glue i k j (inl w) (inr v) = inr (v.0, inr (w.0, v.1), (v.2.0, rw w.1 at (b_joined v.2.0 v.0 k j v.2.1)))
   joined_glue i k j (inr w) v = inr (w.0, inl w.1, a_joined w.2.0 w.0 i k j w.2.1 v)
 
 module _ (a : Positions) (R : Reading) where
@@ -200,8 +162,7 @@ module _ (a : Positions) (R : Reading) where
 
   a_again : (n p i k j : ℕ) → From a R n p i k → Walk (again a) R k j → (c : ℕ) × From (again a) R c p i j
   a_again zero p i k j w (inl e) = (zero, (w.0, w.1, e.1 ∙ w.2))
-  a_again zero p i k j w (inr f) =
-      (suc f.2.0, (w.0, (f.0, inr (w.1, f.1), subst (λ x. From (again a) R f.2.0 f.0 x j) w.2 f.2.1)))
+  a_again zero p i k j w (inr f) = (suc f.2.0, (w.0, (f.0, inr (w.1, f.1), rw w.2 at f.2.1)))
   a_again (suc n) p i k j w e =
       let t = a_again n w.1.0 (suc i) k j w.1.2 e in
       (suc t.0, (w.0, (w.1.0, inl w.1.1, t.1)))
@@ -213,7 +174,7 @@ module _ (a : Positions) (R : Reading) where
       (suc t.2.0, (t.0, inr (w.0, w.1, t.1), t.2.1))
 
   again_one : (i k j : ℕ) → Walk a R i k → Walk (again a) R k j → Walk (again a) R i j
-  again_one i k j (inl w) v = subst (λ x. Walk (again a) R x j) w.1 v
+  again_one i k j (inl w) v = rw w.1 at v
   again_one i k j (inr w) v = inr (w.0, w.1, a_again w.2.0 w.0 i k j w.2.1 v)
 
   again_glue : (c i j : ℕ) → Power (Walk a R) c i j → Walk (again a) R i j

@@ -1,8 +1,8 @@
 -- Words of a position automaton by the number of their signs, each with its formula.
-use Rattle.std.proofs.Common.{◌≡◌, ℕ, zero, suc, ◌+◌, ◌-◌, ◌<◌, ◌≤◌, ◌⊎◌, ◌↔◌, ◌++◌, length, get_or, sym, refl, ap, ◌∙◌, subst, inl, inr, arith, length-append, get_or-append-add}
+use Rattle.std.proofs.Common.{◌≡◌, ℕ, zero, suc, ◌+◌, ◌-◌, ◌<◌, ◌≤◌, ◌⊎◌, ◌↔◌, ◌++◌, length, get_or, refl, inl, inr, arith, length-append, add-zero}
 use mathlib.Core.Logic.Iff
-use native.Mathlib.Decide.{dec_lt}
-use lib.ListN.{get_or-append}
+use Rattle.std.proofs.lemmas.List.{get_or_append_left, get_or-append_right}
+use Rattle.std.proofs.lemmas.Bool.{cases_lt}
 use Rattle.machine.specs.Model.{Model}
 use Rattle.logic.specs.Formulas.{Formula, top, Regular, letter, seq, alt, star, size}
 use Rattle.logic.specs.Meaning.{Sat, Match}
@@ -11,17 +11,15 @@ use Rattle.logic.proofs.Walks.{Reading, From, Walk, Reads, along, inside, reads_
 
 pub letters_length : (r : Regular) → length (letters r) ≡ size r
 letters_length (letter f) = refl
-letters_length (seq r q) = length-append (letters r) (letters q) ∙ omega (arith, letters_length r, letters_length q)
-letters_length (alt r q) = length-append (letters r) (letters q) ∙ omega (arith, letters_length r, letters_length q)
+letters_length (seq r q) = omega (arith, length-append (letters r) (letters q), letters_length r, letters_length q)
+letters_length (alt r q) = omega (arith, length-append (letters r) (letters q), letters_length r, letters_length q)
 letters_length (star r) = letters_length r
 
 at_front : (r q : Regular) (d : ℕ) → d < size r → get_or (letters r ++ letters q) d top ≡ get_or (letters r) d top
-at_front r q d h = get_or-append (letters r) (letters q) top d (omega (arith, letters_length r))
+at_front r q d h = get_or_append_left (letters r) (letters q) top d (omega (arith, letters_length r))
 
 at_back : (r q : Regular) (d : ℕ) → size r ≤ d → get_or (letters r ++ letters q) d top ≡ get_or (letters q) (d - size r) top
-at_back r q d h =
-    let e : d ≡ length (letters r) + (d - size r) = omega (arith, letters_length r) in
-    ap (λ k. get_or (letters r ++ letters q) k top) e ∙ get_or-append-add (letters r) (letters q) (d - size r) top
+at_back r q d h = get_or-append_right (letters r) (letters q) (size r) d top (letters_length r) h
 
 -- the letter at p of two expressions, one behind the other, whose letters are numbered from o on
 pair_to :
@@ -29,32 +27,32 @@ pair_to :
     (Reads m s r o p → Sat m s (letter_at r (p - o))) →
     (Reads m s q (o + size r) p → Sat m s (letter_at q (p - (o + size r)))) →
     Reads m s r o p ⊎ Reads m s q (o + size r) p → Sat m s (get_or (letters r ++ letters q) (p - o) top)
-pair_to m s r q o p f g (inl x) = subst (Sat m s) (sym (at_front r q (p - o) (omega (arith, reads_inside m s r o p x)))) (f x)
+pair_to m s r q o p f g (inl x) = let i = reads_inside m s r o p x in rw (at_front r q (p - o) (omega arith)) (f x)
 pair_to m s r q o p f g (inr x) =
-    let h : o + size r ≤ p = omega (arith, reads_inside m s q (o + size r) p x) in
-    let e : p - (o + size r) ≡ p - o - size r = omega arith in
-    subst (Sat m s) (ap (letter_at q) e ∙ sym (at_back r q (p - o) (omega arith))) (g x)
+    let i = reads_inside m s q (o + size r) p x in
+    let e : p - o - size r ≡ p - (o + size r) = omega arith in
+    rw (at_back r q (p - o) (omega arith), e) (g x)
 
 pair_from :
     (m : Model) (s : ℕ) (r q : Regular) (o p : ℕ) → o ≤ p → p < o + (size r + size q) →
     (p < o + size r → Sat m s (letter_at r (p - o)) → Reads m s r o p) →
     (o + size r ≤ p → p < o + size r + size q → Sat m s (letter_at q (p - (o + size r))) → Reads m s q (o + size r) p) →
     Sat m s (get_or (letters r ++ letters q) (p - o) top) → Reads m s r o p ⊎ Reads m s q (o + size r) p
-pair_from m s r q o p lo hi f g w = elim (dec_lt p (o + size r)) [
-  | yes h ↦ inl (f h (subst (Sat m s) (at_front r q (p - o) (omega arith)) w))
-  | no h ↦
+pair_from m s r q o p lo hi f g w = elim (cases_lt p (o + size r)) [
+  | inl h ↦ inl (f h (rw (at_front r q (p - o) (omega arith)) at w))
+  | inr h ↦
       let e : p - o - size r ≡ p - (o + size r) = omega arith in
-      inr (g (omega arith) (omega arith) (subst (Sat m s) (at_back r q (p - o) (omega arith) ∙ ap (letter_at q) e) w))
+      inr (g h (omega arith) (rw (at_back r q (p - o) (omega arith), e) at w))
 ]
 
 reads_sat : (m : Model) (s : ℕ) (r : Regular) (o p : ℕ) → Reads m s r o p → Sat m s (letter_at r (p - o))
-reads_sat m s (letter f) o p w = let e : 0 ≡ p - o = omega (arith, w.0) in subst (λ k. Sat m s (letter_at (letter f) k)) e w.1
+reads_sat m s (letter f) o p w = let e : p - o ≡ 0 = omega (arith, w.0) in rw e w.1
 reads_sat m s (seq r q) o p w = pair_to m s r q o p (reads_sat m s r o p) (reads_sat m s q (o + size r) p) w
 reads_sat m s (alt r q) o p w = pair_to m s r q o p (reads_sat m s r o p) (reads_sat m s q (o + size r) p) w
 reads_sat m s (star r) o p w = reads_sat m s r o p w
 
 sat_reads : (m : Model) (s : ℕ) (r : Regular) (o p : ℕ) → o ≤ p → p < o + size r → Sat m s (letter_at r (p - o)) → Reads m s r o p
-sat_reads m s (letter f) o p lo hi w = let e : p - o ≡ 0 = omega arith in (omega arith, subst (λ k. Sat m s (letter_at (letter f) k)) e w)
+sat_reads m s (letter f) o p lo hi w = let e : p - o ≡ 0 = omega arith in (omega arith, rw e at w)
 sat_reads m s (seq r q) o p lo hi w = pair_from m s r q o p lo hi (sat_reads m s r o p lo) (sat_reads m s q (o + size r) p) w
 sat_reads m s (alt r q) o p lo hi w = pair_from m s r q o p lo hi (sat_reads m s r o p lo) (sat_reads m s q (o + size r) p) w
 sat_reads m s (star r) o p lo hi w = sat_reads m s r o p lo hi w
@@ -62,10 +60,8 @@ sat_reads m s (star r) o p lo hi w = sat_reads m s r o p lo hi w
 -- the sign p reads what the letter at p says
 reads_letter : (m : Model) (s : ℕ) (r : Regular) (p : ℕ) → p < size r → Reads m s r 0 p ↔ Sat m s (letter_at r p)
 reads_letter m s r p h =
-    let e : p - 0 ≡ p = omega arith in (
-      (λ x. subst (λ k. Sat m s (letter_at r k)) e (reads_sat m s r 0 p x)),
-      (λ x. sat_reads m s r 0 p (omega arith) (omega arith) (subst (λ k. Sat m s (letter_at r k)) (sym e) x)),
-    )
+    let e : p - 0 ≡ p = omega arith in
+    ((λ x. rw e at (reads_sat m s r 0 p x)), (λ x. sat_reads m s r 0 p (omega arith) (omega arith) (rw e x)))
 
 -- the state at k satisfies the formula of p
 abbrev sats : Model → (ℕ → ℕ) → (ℕ → Formula) → Reading
@@ -102,12 +98,12 @@ cons p ρ (suc d) = ρ d
 
 module _ (m : Model) (π : ℕ → ℕ) (a : Positions) (φ : ℕ → Formula) where
   follow_cons : (p q i n : ℕ) (ρ : ℕ → ℕ) → a.follow p q → Run m π (starting q a) φ i n ρ → (d : ℕ) → d < suc n → a.follow (cons p ρ d) (ρ d)
-  follow_cons p q i n ρ f w zero h = subst (a.follow p) (sym w.first) f
+  follow_cons p q i n ρ f w zero h = rw w.first f
   follow_cons p q i n ρ f w (suc d) h = w.follow d (omega arith)
 
   holds_cons : (p q i n : ℕ) (ρ : ℕ → ℕ) → Sat m (π i) (φ p) → Run m π (starting q a) φ (suc i) n ρ → (d : ℕ) → d ≤ suc n → Sat m (π (i + d)) (φ (cons p ρ d))
-  holds_cons p q i n ρ x w zero h = let e : i ≡ i + 0 = omega arith in subst (λ k. Sat m (π k) (φ p)) e x
-  holds_cons p q i n ρ x w (suc d) h = let e : suc i + d ≡ i + suc d = omega arith in subst (λ k. Sat m (π k) (φ (ρ d))) e (w.holds d (omega arith))
+  holds_cons p q i n ρ x w zero h = rw add-zero x
+  holds_cons p q i n ρ x w (suc d) h = let e : i + suc d ≡ suc i + d = omega arith in rw e (w.holds d (omega arith))
 
   run_cons : (p q i n : ℕ) (ρ : ℕ → ℕ) → Sat m (π i) (φ p) → a.follow p q → Run m π (starting q a) φ (suc i) n ρ → Run m π (starting p a) φ i (suc n) (cons p ρ)
   run_cons p q i n ρ x f w = record { first = refl; follow = follow_cons p q (suc i) n ρ f w; last = w.last; holds = holds_cons p q i n ρ x w }
@@ -117,33 +113,22 @@ module _ (m : Model) (π : ℕ → ℕ) (a : Positions) (φ : ℕ → Formula) w
     first = refl;
     follow = λ d h. w.follow (suc d) (omega arith);
     last = w.last;
-    holds = λ d h. let e : i + suc d ≡ suc i + d = omega arith in subst (λ k. Sat m (π k) (φ (ρ (suc d)))) e (w.holds (suc d) (omega arith));
+    holds = λ d h. let e : suc i + d ≡ i + suc d = omega arith in rw e (w.holds (suc d) (omega arith));
   }
 
   run_head : (p i n : ℕ) (ρ : ℕ → ℕ) → Run m π (starting p a) φ i n ρ → Sat m (π i) (φ p)
-  run_head p i n ρ w =
-      let e : i + 0 ≡ i = omega arith in
-      subst (λ k. Sat m (π k) (φ p)) e (subst (λ q. Sat m (π (i + 0)) (φ q)) w.first (w.holds 0 (omega arith)))
+  run_head p i n ρ w = rw (add-zero, w.first) at (w.holds 0 (omega arith))
 
   from_run : (n p i j : ℕ) → From a (sats m π φ) n p i j → (ρ : ℕ → ℕ) × (j ≡ suc (i + n)) × Run m π (starting p a) φ i n ρ
-  from_run zero p i j w = (
-    (λ _. p),
-    omega (arith, w.2),
-    record {
-      first = refl;
-      follow = λ d h. absurd (omega arith);
-      last = w.1;
-      holds = λ d h. let e : i ≡ i + d = omega arith in subst (λ k. Sat m (π k) (φ p)) e w.0;
-    },
-  )
+  from_run zero p i j w = ((λ _. p), omega (arith, w.2), record { first = refl; follow = λ d h. absurd (omega arith); last = w.1; holds = λ d h. let e : i + d ≡ i = omega arith in rw e w.0 })
   from_run (suc n) p i j w =
       let t = from_run n w.1.0 (suc i) j w.1.2 in
       (cons p t.0, omega (arith, t.1), run_cons p w.1.0 i n t.0 w.0 w.1.1 t.2)
 
   run_from : (n p i j : ℕ) (ρ : ℕ → ℕ) → j ≡ suc (i + n) → Run m π (starting p a) φ i n ρ → From a (sats m π φ) n p i j
-  run_from zero p i j ρ e w = (run_head p i 0 ρ w, subst a.last w.first w.last, omega arith)
+  run_from zero p i j ρ e w = (run_head p i 0 ρ w, rw w.first at w.last, omega arith)
   run_from (suc n) p i j ρ e w =
-      let f : a.follow p (ρ 1) = subst (λ q. a.follow q (ρ 1)) w.first (w.follow 0 (omega arith)) in
+      let f : a.follow p (ρ 1) = rw w.first at (w.follow 0 (omega arith)) in
       (run_head p i (suc n) ρ w, (ρ 1, f, run_from n (ρ 1) (suc i) j (λ d. ρ (suc d)) (omega arith) (run_tail p i n ρ w)))
 
   walk_accepts : (i j : ℕ) → Walk a (sats m π φ) i j → Accepts m π a φ i j
@@ -151,7 +136,7 @@ module _ (m : Model) (π : ℕ → ℕ) (a : Positions) (φ : ℕ → Formula) w
   walk_accepts i j (inr w) =
       let t = from_run w.2.0 w.0 i j w.2.1 in
       let r = t.2 in
-      inr (w.2.0, t.0, t.1, record { first = subst a.first (sym r.first) w.1; follow = r.follow; last = r.last; holds = r.holds })
+      inr (w.2.0, t.0, t.1, record { first = rw r.first w.1; follow = r.follow; last = r.last; holds = r.holds })
 
   accepts_walk : (i j : ℕ) → Accepts m π a φ i j → Walk a (sats m π φ) i j
   accepts_walk i j (inl w) = inl w
@@ -164,7 +149,7 @@ module _ (m : Model) (π : ℕ → ℕ) (a : Positions) (φ : ℕ → Formula) w
   next_walk (suc k) p n j s w = next_walk k s.0 (suc n) j s.1 (s.2, (p, s.3, w))
 
   walk_on : (n p k j : ℕ) → Next m π a φ k p → From a (sats m π φ) n p k j → End m π a φ j
-  walk_on zero p k j s w = subst (End m π a φ) (sym w.2) (p, s, w.0, w.1)
+  walk_on zero p k j s w = rw w.2 (p, s, w.0, w.1)
   walk_on (suc n) p k j s w = walk_on n w.1.0 (suc k) j (p, s, w.0, w.1.1) w.1.2
 
   end_walk : (i : ℕ) → End m π a φ i → Walk a (sats m π φ) 0 i
@@ -172,7 +157,7 @@ module _ (m : Model) (π : ℕ → ℕ) (a : Positions) (φ : ℕ → Formula) w
   end_walk (suc i) w = next_walk i w.0 zero (suc i) w.1 (w.2, w.3, refl)
 
   walk_end : (i : ℕ) → Walk a (sats m π φ) 0 i → End m π a φ i
-  walk_end i (inl w) = subst (End m π a φ) (sym w.1) w.0
+  walk_end i (inl w) = rw w.1 w.0
   walk_end i (inr w) = walk_on w.2.0 w.0 0 i w.1 w.2.1
 
 pub spelled : Spelled

@@ -3,7 +3,7 @@
 ghost use Rattle.logic.specs.Positions.{Spelled, Ends};
 
 /// The four operators that speak of a path's states after a match.
-#[derive(Clone, Copy)]
+#[derive(Clone, Copy, Debug, PartialEq, Eq)]
 pub enum Quantifier {
     EF,
     AF,
@@ -12,7 +12,7 @@ pub enum Quantifier {
 }
 
 /// The two operators that speak of matches one behind the other without end.
-#[derive(Clone, Copy)]
+#[derive(Clone, Copy, Debug, PartialEq, Eq)]
 pub enum Cycle {
     Loop,
     Sat,

@@ -1,5 +1,6 @@
 -- What a machine means. Every answer of a machine follows from its Model, and code above the machines knows nothing else of them.
-use Rattle.std.specs.Prelude.{◌≡◌, ℕ, ◌<◌, ◌≤◌, Bool, true, false, ◌||◌, List, [], ◌∷◌, length, Some, None, Option}
+use Rattle.std.specs.Prelude.{◌≡◌, ℕ, ◌<◌, ◌≤◌, Bool, true, false, List, [], length, Some, None, Option}
+use Rattle.std.specs.List.{list_any}
 use Rattle.std.specs.Str.{bytes_eq}
 
 pub record Model : Type 0 where
@@ -14,8 +15,7 @@ pub record Model : Type 0 where
 
 -- whether a word is one of some names
 abbrev pub among : List (List ℕ) → List ℕ → Bool
-among [] w = false
-among (n ∷ ns) w = bytes_eq n w || among ns w
+among names w = list_any (λ n. bytes_eq n w) names
 
 -- the laws that every machine keeps
 pub record Lawful (m : Model) : Type 0 where

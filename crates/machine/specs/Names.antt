@@ -1,5 +1,6 @@
 -- Which words can be names: a letter, then letters, digits and underscores, and no key word of the rules.
-use Rattle.std.specs.Prelude.{ℕ, Bool, true, false, not, ◌&&◌, ◌||◌, List, [], ◌∷◌, codes, ◌==◌, nat_le}
+use Rattle.std.specs.Prelude.{ℕ, Bool, false, not, ◌&&◌, ◌||◌, List, [], ◌∷◌, codes, ◌==◌, nat_le}
+use Rattle.std.specs.List.{list_all}
 use Rattle.machine.specs.Model.{among}
 
 -- A to Z, a to z
@@ -15,8 +16,7 @@ abbrev pub continues : ℕ → Bool
 continues b = is_letter b || (is_digit b || b == 95)
 
 abbrev pub all_continue : List ℕ → Bool
-all_continue [] = true
-all_continue (b ∷ bs) = continues b && all_continue bs
+all_continue = list_all continues
 
 abbrev pub is_word : List ℕ → Bool
 is_word [] = false

@@ -9,10 +9,9 @@ pub mod name;
 pub trait Machine {
     ghost model: { Self → Model };
 
-    /// How many states there are; they are numbered from 0. Its contract also says that the meaning keeps the laws.
+    /// How many states there are; they are numbered from 0.
     fn states(&self) -> usize
-        ensures lawful { Lawful (model self.now) }
-        ensures value { result ≡ (model self.now).states };
+        ensures { result ≡ (model self.now).states };
 
     /// How many names there are, one that stands twice counted twice.
     fn names(&self) -> usize
@@ -27,6 +26,10 @@ pub trait Machine {
         ensures { result ≡ (model self.now).bears state word.now };
 
     /// The seconds of the step between two states, if there is one.
+    // Two bare numbers: a type for both would be made by whoever asks and taken apart by whoever answers.
     fn step(&self, from: usize, to: usize) -> Option<u16>
         ensures { result ≡ (model self.now).step from to };
+
+    // Whatever the machine, its meaning keeps the laws.
+    ghost lawful: { (m : Self) → Lawful (model m) };
 }

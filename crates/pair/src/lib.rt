@@ -1,8 +1,8 @@
 #![tactic(auto)]
 
-ghost use Rattle.std.specs.Prelude.{◌≡◌, ◌+◌, ◌*◌, true, false, length, Some, None};
-ghost use Rattle.machine.specs.Model.{Lawful};
+ghost use Rattle.std.specs.Prelude.{◌≡◌, false, MatchOption};
 ghost use Rattle.pair.specs.Pairs.{fewer, fits, pair_model};
+ghost use Rattle.pair.specs.Sizes.{IsSizeOf};
 
 use machine::Machine;
 
@@ -13,6 +13,7 @@ pub struct Pair<L, R> {
     right: R,
 }
 
+/// How many states and names the sides of a pair make together, and how many states the right one has.
 #[derive(Clone, Copy)]
 struct Size {
     states: usize,
@@ -30,28 +31,23 @@ impl<L, R> Pair<L, R> {
     }
 }
 
-fn common_size<L: Machine, R: Machine>(left: &L, right: &R) -> Option<Size>
-    ensures lawful { Lawful (pair_model (L.Machine.model left.now) (R.Machine.model right.now)) }
-    ensures value { elim result [
-      | Some z ↦
-          (fits (L.Machine.model left.now) (R.Machine.model right.now) ≡ true)
-          × (z.states ≡ (L.Machine.model left.now).states * (R.Machine.model right.now).states)
-          × (z.names ≡ length (L.Machine.model left.now).names + length (R.Machine.model right.now).names)
-          × (z.right_states ≡ (R.Machine.model right.now).states)
-      | None ↦ fits (L.Machine.model left.now) (R.Machine.model right.now) ≡ false
-    ] }
-{
-    let right_states = right.states();
-    let states = left.states() * right_states;
-    let names = left.names() + right.names();
-    if states <= 1024 && names <= 32 {
-        Some(Size {
-            states,
-            names,
-            right_states,
-        })
-    } else {
-        None
+impl<L: Machine, R: Machine> Pair<L, R> {
+    /// How large the pair is, unless it is too large.
+    fn size(&self) -> Option<Size>
+        ensures { MatchOption result (fits (L.Machine.model self.now.left) (R.Machine.model self.now.right) ≡ false) (IsSizeOf (L.Machine.model self.now.left) (R.Machine.model self.now.right)) }
+    {
+        let right_states = self.right.states();
+        let states = self.left.states() * right_states;
+        let names = self.left.names() + self.right.names();
+        if states <= 1024 && names <= 32 {
+            Some(Size {
+                states,
+                names,
+                right_states,
+            })
+        } else {
+            None
+        }
     }
 }
 
@@ -67,29 +63,27 @@ fn fewer_seconds(left: Option<u16>, right: Option<u16>) -> Option<u16>
 
 /// State `s` has the left side at `s / q` and the right side at `s % q`, where `q` is the number of states on the right.
 impl<L: Machine, R: Machine> Machine for Pair<L, R> {
+    ghost use Rattle.pair.specs.Laws.{pair_lawful};
+
     ghost model = { λ p. pair_model (L.Machine.model p.left) (R.Machine.model p.right) };
 
+    ghost lawful = { λ p. pair_lawful (L.Machine.lawful p.left) (R.Machine.lawful p.right) };
+
     fn states(&self) -> usize {
-        match common_size(&self.left, &self.right) {
-            Some(size) => size.states,
-            None => 0,
-        }
+        self.size().map_or(0, |size| size.states)
     }
 
     fn names(&self) -> usize {
-        match common_size(&self.left, &self.right) {
-            Some(size) => size.names,
-            None => 0,
-        }
+        self.size().map_or(0, |size| size.names)
     }
 
+    #[tactic(auto, using(crate::specs::Laws::among_append))]
     fn knows(&self, word: &[u8]) -> bool {
-        common_size(&self.left, &self.right).is_some()
-            && (self.left.knows(word) || self.right.knows(word))
+        self.size().is_some() && (self.left.knows(word) || self.right.knows(word))
     }
 
     fn bears(&self, state: usize, word: &[u8]) -> bool {
-        match common_size(&self.left, &self.right) {
+        match self.size() {
             Some(size) if state < size.states => {
                 if self.left.knows(word) {
                     self.left.bears(state / size.right_states, word)
@@ -102,7 +96,7 @@ impl<L: Machine, R: Machine> Machine for Pair<L, R> {
     }
 
     fn step(&self, from: usize, to: usize) -> Option<u16> {
-        match common_size(&self.left, &self.right) {
+        match self.size() {
             Some(size) if from < size.states && to < size.states => {
                 let (left_from, right_from) = (from / size.right_states, from % size.right_states);
                 let (left_to, right_to) = (to / size.right_states, to % size.right_states);

@@ -1,1 +1,4 @@
 pub mod Sums
+pub mod Listed
+pub mod Words
+pub mod Asked

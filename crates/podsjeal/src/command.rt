@@ -1,16 +1,17 @@
-use crate::describe::describe;
+use crate::complaint::Complaint;
+use crate::examined::Examined;
 use crate::rules::judge_file;
-use crate::single::Task;
 use machine::Machine;
+use std::process::ExitCode;
 
 /// What the command line asks about a machine.
-#[derive(Clone, Copy)]
-pub(crate) enum Command<'a> {
+#[derive(Clone, Copy, Debug)]
+pub(crate) enum Command<'w> {
     Examine,
-    Rules { file: &'a str },
+    Rules { file: &'w str },
 }
 
-impl Command<'_> {
+impl<'w> Command<'w> {
     /// The words that the command takes.
     pub(crate) fn usage(self) -> &'static str {
         match self {
@@ -18,18 +19,19 @@ impl Command<'_> {
             Command::Rules { .. } => "rules takes one machine and one file",
         }
     }
-}
 
-impl Task for Command<'_> {
-    fn carry_out<M: Machine + Drop>(
+    /// Carries the command out on a machine.
+    pub(crate) fn run<M: Machine>(
         self,
         rt: &HostRuntime,
-        machine: M,
-        names: Vec<Vec<u8>>,
-    ) -> anyhow::Result<bool> {
+        examined: &Examined<'_, M>,
+    ) -> Result<ExitCode, Complaint<'w>> {
         match self {
-            Command::Examine => describe(rt, &machine, &names),
-            Command::Rules { file } => judge_file(rt, &machine, file),
+            Command::Examine => {
+                examined.describe(rt)?;
+                Ok(ExitCode::SUCCESS)
+            }
+            Command::Rules { file } => judge_file(rt, &examined.machine, file),
         }
     }
 }

@@ -1,14 +1,47 @@
-ghost use Rattle.std.specs.Prelude.{◌≡◌, false, IfOk};
+ghost use Rattle.std.specs.Prelude.{◌≡◌, IfOk};
 
-use std::fmt::Display;
+use crate::command::Command;
+use fault::Fault;
+use std::alloc::AllocError;
+use std::io;
+use std::process::ExitCode;
+use thiserror::Error;
 
 pub(crate) const USAGE: &str =
     "usage: podsjeal examine MACHINE or podsjeal rules MACHINE FILE, where MACHINE is sheet:FILE, ring:N,C,A or pair X Y";
 
-/// Says on one line what was wrong with the command line and how it is used.
-pub(crate) fn complain<D: Display + Drop>(rt: &HostRuntime, what: D) -> anyhow::Result<bool>
-    ensures { IfOk result (λ good. good ≡ false) }
+/// Why the words of a command line are not carried out.
+#[derive(Debug, Drop, Error)]
+pub(crate) enum Complaint<'w> {
+    #[error("no command is given")]
+    NoCommand,
+    #[error("there is no command {0:?}")]
+    NoSuchCommand(&'w str),
+    #[error("{}", .0.usage())]
+    WrongWords(Command<'w>),
+    #[error("no file of rules is given")]
+    NoRules,
+    #[error("{0:?} names no machine")]
+    NoMachine(&'w str),
+    #[error("cannot read {path:?}: {cause}")]
+    Unreadable { path: &'w str, cause: io::Error },
+    #[error("{0}")]
+    BadSheet(#[from] Fault),
+    #[error(transparent)]
+    Memory(#[from(alloc)] AllocError),
+    #[error(transparent)]
+    Output(#[from] io::Error),
+}
+
+/// Says what is wrong, and answers with the status of a failure.
+pub(crate) fn refuse(rt: &HostRuntime, complaint: Complaint) -> anyhow::Result<ExitCode>
+    ensures { IfOk result (λ status. status ≡ ExitCode.FAILURE) }
 {
-    eprintln!(rt; "podsjeal: {what}; {USAGE}")?;
-    Ok(false)
+    match complaint {
+        Complaint::Memory(cause) => return Err(cause.into()),
+        Complaint::Output(cause) => return Err(cause.into()),
+        Complaint::BadSheet(fault) => println!(rt; "{fault}")?,
+        other => eprintln!(rt; "podsjeal: {other}; {USAGE}")?,
+    }
+    Ok(ExitCode::FAILURE)
 }

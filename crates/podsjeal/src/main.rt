@@ -3,58 +3,76 @@
 mod command;
 mod complaint;
 mod count;
-mod describe;
+mod examined;
 mod file;
-mod machines;
+mod order;
 mod request;
 mod rules;
 mod single;
+mod source;
 
 use command::Command;
-use complaint::{USAGE, complain};
-use machines::on_machine;
+use complaint::{Complaint, USAGE, refuse};
+use examined::Examined;
+use order::{Order, Subject};
+use request::Request;
+use single::Single;
+use source::Source;
 use std::env;
 use std::process::ExitCode;
 
-/// Takes the last word for the file of rules, and those before it for the machine.
-fn on_rules(rt: &HostRuntime, words: &[String]) -> anyhow::Result<bool> {
-    match words.split_last() {
-        Some((file, machine)) => {
-            let file = file.as_str();
-            on_machine(rt, Command::Rules { file }, machine)
-        }
-        None => complain(rt, "no file of rules is given"),
-    }
+/// Carries a command out on a machine, once that is read.
+fn on_one<'w>(
+    rt: &HostRuntime,
+    command: Command<'w>,
+    request: Request<'w>,
+) -> Result<ExitCode, Complaint<'w>> {
+    let source = Source::load(rt, request)?;
+    let examined = source.examined(rt.alloc())?;
+    command.run(rt, &examined)
 }
 
-/// Carries out the words of a command line, and answers whether it was without fault.
-fn obey(rt: &HostRuntime, words: &[String]) -> anyhow::Result<bool> {
-    let Some((first, rest)) = words.split_first() else {
-        return complain(rt, "no command is given");
-    };
-    match first.as_str() {
-        "--help" => {
+/// Carries a command out on two machines side by side, the left one read before the right one.
+fn on_pair<'w>(
+    rt: &HostRuntime,
+    command: Command<'w>,
+    left: Request<'w>,
+    right: Request<'w>,
+) -> Result<ExitCode, Complaint<'w>> {
+    let source = Source::load(rt, left)?;
+    let examined = source.examined(rt.alloc())?;
+    on_right(rt, command, examined, right)
+}
+
+/// Carries a command out on a machine and the one to its right, once that is read.
+// A function of its own: with both sources in one function the check makes no proof of how they are let go.
+fn on_right<'s, 'w>(
+    rt: &HostRuntime,
+    command: Command<'w>,
+    left: Examined<'s, Single<'s>>,
+    right: Request<'w>,
+) -> Result<ExitCode, Complaint<'w>> {
+    let source = Source::load(rt, right)?;
+    let examined = source.examined(rt.alloc())?;
+    command.run(rt, &left.beside(examined)?)
+}
+
+/// Carries out the words of a command line.
+fn obey<'w>(rt: &HostRuntime, words: &'w [String]) -> Result<ExitCode, Complaint<'w>> {
+    match Order::try_from(words)? {
+        Order::Help => {
             println!(rt; "{USAGE}")?;
-            Ok(true)
+            Ok(ExitCode::SUCCESS)
         }
-        "examine" => on_machine(rt, Command::Examine, rest),
-        "rules" => on_rules(rt, rest),
-        other => complain(rt, format_args!("there is no command {other:?}")),
+        Order::On(command, Subject::One(request)) => on_one(rt, command, request),
+        Order::On(command, Subject::Pair(left, right)) => on_pair(rt, command, left, right),
     }
-}
-
-fn run(rt: &HostRuntime) -> anyhow::Result<bool> {
-    let mut words = Vec::new(rt.alloc());
-    for word in env::args(rt)?.skip(1) {
-        words.push(word)?;
-    }
-    obey(rt, &words)
 }
 
 fn main(rt: HostRuntime) -> anyhow::Result<ExitCode> {
-    if run(&rt)? {
-        Ok(ExitCode::SUCCESS)
-    } else {
-        Ok(ExitCode::FAILURE)
+    let words: Vec<String> = env::args(&rt)?.skip(1).collect(rt.alloc())?;
+    match obey(&rt, &words) {
+        Ok(status) => Ok(status),
+        Err(complaint) => refuse(&rt, complaint),
     }
 }

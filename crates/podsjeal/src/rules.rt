@@ -1,54 +1,57 @@
+ghost use Rattle.std.specs.Prelude.{◌↔◌, IfOk, IsTrue};
+ghost use Rattle.machine.specs.Model.{among};
+ghost use Rattle.podsjeal.specs.Judged.{IsRule};
+
+use crate::complaint::Complaint;
 use crate::file::read_file;
 use machine::Machine;
-use report::{Verdict, split_line};
+use report::{Verdict, lines};
 use std::io;
 use std::io::{BufWriter, Write};
+use std::process::ExitCode;
 
 /// Says of one line whether it is a rule, and answers the same.
+// The bool is the answer itself, and no flag beside one.
 fn judge<M: Machine, W: Write>(
     out: &mut W,
     machine: &M,
     number: usize,
     text: &[u8],
-) -> io::Result<bool> {
-    let fault = match rule::read(text, machine) {
-        Ok(_rule) => None,
-        Err(fault) => Some(fault),
-    };
+) -> io::Result<bool>
+    ensures { IfOk result (λ taken. IsTrue taken ↔ IsRule (among (M.model machine.now).names) text.now) }
+{
+    let outcome = rule::read(text, machine).map(|_| ());
     let verdict = Verdict {
         number,
         text,
-        fault,
+        outcome,
     };
     writeln!(out, "{verdict}")?;
-    Ok(fault.is_none())
+    Ok(outcome.is_ok())
 }
 
 /// Says of each line whether it is a rule, and answers whether all are.
-fn judge_lines<M: Machine, W: Write>(out: &mut W, machine: &M, lines: &[u8]) -> io::Result<bool> {
-    let mut good = true;
-    let mut number = 0;
-    let mut rest = lines;
-    while !rest.is_empty() {
-        let (line, behind) = split_line(rest);
-        number += 1;
-        good &= judge(out, machine, number, line)?;
-        rest = behind;
+fn judge_lines<M: Machine, W: Write>(out: &mut W, machine: &M, bytes: &[u8]) -> io::Result<bool> {
+    let mut all_taken = true;
+    for (i, line) in lines(bytes).enumerate() {
+        all_taken &= judge(out, machine, i + 1, line)?;
     }
-    Ok(good)
+    Ok(all_taken)
 }
 
 /// Says of each line of a file whether it is a rule for the machine.
-pub(crate) fn judge_file<M: Machine>(
+pub(crate) fn judge_file<'w, M: Machine>(
     rt: &HostRuntime,
     machine: &M,
-    path: &str,
-) -> anyhow::Result<bool> {
-    let Some(lines) = read_file(rt, path)? else {
-        return Ok(false);
-    };
+    path: &'w str,
+) -> Result<ExitCode, Complaint<'w>> {
+    let bytes = read_file(rt, path)?;
     let mut out = BufWriter::new(rt.alloc(), rt.stdout())?;
-    let good = judge_lines(&mut out, machine, &lines)?;
+    let all_taken = judge_lines(&mut out, machine, &bytes)?;
     out.flush()?;
-    Ok(good)
+    Ok(if all_taken {
+        ExitCode::SUCCESS
+    } else {
+        ExitCode::FAILURE
+    })
 }

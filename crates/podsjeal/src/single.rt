@@ -1,68 +1,87 @@
-use crate::file::read_file;
-use crate::request::Request;
+ghost use Rattle.std.specs.Prelude.{◌≡◌, map, IfOk};
+ghost use Rattle.std.specs.Option.{option_map};
+ghost use Rattle.std.specs.List.{slice_get};
+
 use machine::Machine;
 use ring::Ring;
 use sheet::Sheet;
 use std::alloc::{AllocError, Global};
 
-/// The words that a ring knows, if it knows any.
-fn ring_names(heap: Global) -> Result<Vec<Vec<u8>>, AllocError> {
-    let mut names = Vec::new(heap);
-    names.push(b"home".to_vec(heap)?)?;
-    names.push(b"aim".to_vec(heap)?)?;
-    Ok(names)
+/// A machine that one word names.
+#[derive(Clone, Copy)]
+pub(crate) enum Single<'a> {
+    Ring(Ring),
+    Sheet(Sheet<'a>),
 }
 
-fn sheet_names(heap: Global, sheet: &Sheet) -> Result<Vec<Vec<u8>>, AllocError> {
-    let mut names = Vec::new(heap);
-    for i in 0..sheet.names() {
-        if let Some(name) = sheet.name(i) {
-            names.push(name.to_vec(heap)?)?;
+impl<'a> Single<'a> {
+    /// Name i of the list of names, if there are so many.
+    fn name(&self, i: usize) -> Option<&'a [u8]>
+        ensures { option_map (λ x. x.now) result ≡ slice_get (⟦<Single<'a> as Machine>⟧.model self.now).names i }
+    {
+        match self {
+            Single::Ring(ring) => ring.name(i),
+            Single::Sheet(sheet) => sheet.name(i),
         }
     }
-    Ok(names)
-}
 
-/// The bytes of a file that is a mode sheet; where it is none, says why and answers nothing.
-fn read_sheet(rt: &HostRuntime, path: &str) -> anyhow::Result<Option<Vec<u8>>> {
-    let Some(bytes) = read_file(rt, path)? else {
-        return Ok(None);
-    };
-    if let Err(fault) = sheet::examine(&bytes) {
-        println!(rt; "{fault}")?;
-        return Ok(None);
-    }
-    Ok(Some(bytes))
-}
-
-/// What is to be done with a machine and its names, whatever its make.
-pub(crate) trait Task {
-    fn carry_out<M: Machine + Drop>(
-        self,
-        rt: &HostRuntime,
-        machine: M,
-        names: Vec<Vec<u8>>,
-    ) -> anyhow::Result<bool>;
-}
-
-/// Does a task with a machine, unless its sheet cannot be used, which is then told.
-pub(crate) fn with_single<T: Task + Drop>(
-    rt: &HostRuntime,
-    machine: Request,
-    task: T,
-) -> anyhow::Result<bool> {
-    match machine {
-        Request::Dome { sectors, turn, aim } => {
-            let names = ring_names(rt.alloc())?;
-            task.carry_out(rt, Ring::new(sectors, turn, aim), names)
+    /// The list of names.
+    pub(crate) fn listed(&self, alloc: Global) -> Result<Vec<&'a [u8]>, AllocError>
+        ensures { IfOk result (λ names. map (λ x. x.now) names.items ≡ (⟦<Single<'a> as Machine>⟧.model self.now).names) }
+    {
+        // A loop, since of `filter_map` and `collect` the exact list did not prove: `name` is known by what it refers to alone.
+        let mut names = Vec::new(alloc);
+        for i in 0..self.names() {
+            if let Some(name) = self.name(i) {
+                names.push(name)?;
+            }
         }
-        Request::File(path) => {
-            let Some(bytes) = read_sheet(rt, path)? else {
-                return Ok(false);
-            };
-            let sheet = Sheet::open(&bytes);
-            let names = sheet_names(rt.alloc(), &sheet)?;
-            task.carry_out(rt, sheet, names)
+        Ok(names)
+    }
+}
+
+/// The machine means what the one that it holds means.
+impl Machine for Single<'_> {
+    ghost use Rattle.ring.specs.Laws.{ring_lawful};
+    ghost use Rattle.layout.proofs.Meanings.{sheet_lawful};
+    ghost use Rattle.podsjeal.specs.declared.single.Single.TheVariants.{Ring, Sheet};
+
+    ghost model = { elim [ Ring r ↦ ⟦<Ring as Machine>⟧.model r | Sheet s ↦ ⟦<Sheet<'static> as Machine>⟧.model s ] };
+
+    ghost lawful = { elim [ Ring r ↦ ring_lawful r | Sheet s ↦ sheet_lawful s.bytes.now s.octets ] };
+
+    fn states(&self) -> usize {
+        match self {
+            Single::Ring(ring) => ring.states(),
+            Single::Sheet(sheet) => sheet.states(),
+        }
+    }
+
+    fn names(&self) -> usize {
+        match self {
+            Single::Ring(ring) => ring.names(),
+            Single::Sheet(sheet) => sheet.names(),
+        }
+    }
+
+    fn knows(&self, word: &[u8]) -> bool {
+        match self {
+            Single::Ring(ring) => ring.knows(word),
+            Single::Sheet(sheet) => sheet.knows(word),
+        }
+    }
+
+    fn bears(&self, state: usize, word: &[u8]) -> bool {
+        match self {
+            Single::Ring(ring) => ring.bears(state, word),
+            Single::Sheet(sheet) => sheet.bears(state, word),
+        }
+    }
+
+    fn step(&self, from: usize, to: usize) -> Option<u16> {
+        match self {
+            Single::Ring(ring) => ring.step(from, to),
+            Single::Sheet(sheet) => sheet.step(from, to),
         }
     }
 }

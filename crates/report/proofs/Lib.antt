@@ -1,2 +1,3 @@
-pub mod Lines
+pub mod Splits
+pub mod Joins
 pub mod Columns

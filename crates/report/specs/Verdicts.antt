@@ -1,5 +1,5 @@
 -- What is written of a line of rules.
-use Rattle.std.specs.Prelude.{ℕ, cond, ◌&&◌, List, [], ◌∷◌, ◌++◌, Some, None, codes, decimal, Option, nat_le}
+use Rattle.std.specs.Prelude.{ℕ, cond, ◌&&◌, List, ◌++◌, map, Ok, Err, codes, decimal, Result, nat_le}
 use Rattle.std.specs.List.{repeat}
 use Rattle.fault.specs.Numbers.{line_of}
 use Rattle.fault.specs.declared.Fault.{Fault}
@@ -9,11 +9,10 @@ abbrev pub column_of : ℕ → ℕ
 column_of b = cond (nat_le 32 b && nat_le b 126) b 63
 
 abbrev pub columns_of : List ℕ → List ℕ
-columns_of [] = []
-columns_of (b ∷ bs) = column_of b ∷ columns_of bs
+columns_of bs = map column_of bs
 
 -- a rule's number; or the number and the fault, then the text, then a mark below the fault's place
-abbrev pub verdict_of : ℕ → List ℕ → Option Fault → List ℕ
-verdict_of number text None = decimal number ++ codes ": ok"
-verdict_of number text (Some f) =
+abbrev pub verdict_of : ℕ → List ℕ → Result (Unit {0}) Fault → List ℕ
+verdict_of number text (Ok done) = decimal number ++ codes ": ok"
+verdict_of number text (Err f) =
     decimal number ++ (codes ": " ++ (line_of f ++ (codes "\n    " ++ (columns_of text ++ (codes "\n    " ++ (repeat f.place (codes " ") ++ codes "^"))))))

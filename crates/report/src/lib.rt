@@ -1,7 +1,9 @@
 #![tactic(auto)]
 
+mod left;
 mod line;
 mod verdict;
 
-pub use line::split_line;
+pub use left::Lines;
+pub use line::{lines, split_line};
 pub use verdict::Verdict;

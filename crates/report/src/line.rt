@@ -1,19 +1,8 @@
-ghost use Rattle.std.specs.Prelude.{◌≡◌, ℕ, ◌<◌, ◌≤◌, length, ◌≢◌, slice_index};
-ghost use Rattle.report.specs.Lines.{first_line, behind_line};
+ghost use Rattle.std.specs.Prelude.{◌≡◌, ◌<◌, ◌≤◌, length};
+ghost use Rattle.report.specs.Lines.{first_line, behind_line, lines_of, AreLinesOf};
+ghost use Rattle.report.specs.Left.{left_of};
 
-/// The offset of the first line feed, or the length where there is none.
-fn line_end(bytes: &[u8]) -> usize
-    ensures within { result ≤ length bytes.now }
-    ensures before { (k : ℕ) → k < result → slice_index bytes.now k ≢ 10 }
-    ensures found { result < length bytes.now → slice_index bytes.now result ≡ 10 }
-{
-    for (i, b) in bytes.iter().enumerate() {
-        if *b == b'\n' {
-            return i;
-        }
-    }
-    bytes.len()
-}
+use crate::left::Lines;
 
 /// The first line without its line feed, and all that stands behind it.
 pub fn split_line(bytes: &[u8]) -> (&[u8], &[u8])
@@ -21,9 +10,17 @@ pub fn split_line(bytes: &[u8]) -> (&[u8], &[u8])
     ensures behind { result.1.now ≡ behind_line bytes.now }
     ensures shorter { 0 < length bytes.now → length result.1.now < length bytes.now }
 {
-    let end = line_end(bytes);
-    if end == bytes.len() {
-        return (bytes, &bytes[end..]);
+    match bytes.iter().position(|b| *b == b'\n') {
+        Some(end) => (&bytes[..end], &bytes[end + 1..]),
+        None => (bytes, &[]),
     }
-    (&bytes[..end], &bytes[end + 1..])
+}
+
+/// The lines of a file, without their line feeds; a last line feed begins no further line.
+pub fn lines(bytes: &[u8]) -> Lines<'_>
+    ensures all { left_of result ≡ lines_of bytes.now }
+    ensures few { length (left_of result) ≤ length bytes.now }
+    ensures whole { AreLinesOf bytes.now (left_of result) }
+{
+    Lines { rest: bytes }
 }

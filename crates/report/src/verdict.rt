@@ -1,5 +1,4 @@
-ghost use Rattle.std.specs.Prelude.{◌≡◌, Some, codes};
-ghost use Rattle.std.specs.List.{repeat};
+ghost use Rattle.std.specs.Prelude.{◌≡◌, Some};
 ghost use Rattle.report.specs.Verdicts.{column_of, columns_of, verdict_of};
 
 use fault::Fault;
@@ -15,6 +14,7 @@ fn column(b: u8) -> u8
     }
 }
 
+/// A text of which each byte takes one column.
 #[derive(Clone, Copy)]
 struct Columns<'a> {
     text: &'a [u8],
@@ -31,41 +31,26 @@ impl fmt::Display for Columns<'_> {
     }
 }
 
-#[derive(Clone, Copy)]
-struct Gap {
-    width: usize,
-}
-
-impl fmt::Display for Gap {
-    ghost output = { λ g. Some (repeat g.width (codes " ")) };
-
-    fn fmt<W: fmt::Write>(&self, f: &mut fmt::Formatter<W>) -> fmt::Result {
-        for _ in 0..self.width {
-            f.write_str(" ")?;
-        }
-        Ok(())
-    }
-}
-
 /// What is said of a line of rules: that it is one, or its fault, its text, and a mark below the fault's place.
-#[derive(Clone, Copy)]
+#[derive(Clone, Copy, Debug)]
 pub struct Verdict<'a> {
     pub number: usize,
     pub text: &'a [u8],
-    pub fault: Option<Fault>,
+    pub outcome: Result<(), Fault>,
 }
 
 impl fmt::Display for Verdict<'_> {
-    ghost output = { λ v. Some (verdict_of v.number v.text.now v.fault) };
+    ghost output = { λ v. Some (verdict_of v.number v.text.now v.outcome) };
 
     fn fmt<W: fmt::Write>(&self, f: &mut fmt::Formatter<W>) -> fmt::Result {
         let number = self.number;
-        match self.fault {
-            None => write!(f, "{number}: ok"),
-            Some(fault) => {
+        match self.outcome {
+            Ok(()) => write!(f, "{number}: ok"),
+            Err(fault) => {
                 let columns = Columns { text: self.text };
-                let gap = Gap { width: fault.place };
-                write!(f, "{number}: {fault}\n    {columns}\n    {gap}^")
+                // The empty text, filled up with blanks to this width, is the gap before the mark.
+                let place = fault.place;
+                write!(f, "{number}: {fault}\n    {columns}\n    {:place$}^", "")
             }
         }
     }

@@ -1,80 +1,82 @@
 #![tactic(auto)]
 
-ghost use Rattle.std.specs.Prelude.{◌≡◌, ◌<◌, nat_lt};
-ghost use Rattle.ring.specs.Rings.{in_range, follows, ring_model};
+ghost use Rattle.std.specs.Prelude.{◌≡◌};
+ghost use Rattle.std.specs.List.{slice_get};
+ghost use Rattle.std.specs.Option.{option_map};
+ghost use Rattle.ring.specs.Rings.{ring_model};
 
+mod dome;
+
+use dome::Dome;
 use machine::Machine;
-use machine::name::same_word;
 
 /// Sectors numbered round: a turn leads to either neighbour, and every sector can be kept for a second.
 #[derive(Clone, Copy)]
 pub struct Ring {
-    sectors: u16,
-    turn: u16,
-    aim: u16,
-    ghost ok: { in_range sectors turn aim ≡ nat_lt 0 sectors },
+    // none where the numbers are out of range
+    dome: Option<Dome>,
 }
 
 impl Ring {
+    ghost use Rattle.ring.specs.Meanings.{meaning_of};
+
     /// A ring of so many sectors, with the seconds of a turn and the sector of the aim; out of range it has no states.
     pub fn new(sectors: usize, turn: usize, aim: usize) -> Ring
-        ensures { ring_model result.sectors result.turn result.aim ≡ ring_model sectors turn aim }
+        ensures { meaning_of result ≡ ring_model sectors turn aim }
     {
-        if 3 <= sectors && sectors <= 360 && 1 <= turn && turn <= 3600 && aim < sectors {
-            Ring {
-                sectors: sectors as u16,
-                turn: turn as u16,
-                aim: aim as u16,
-            }
-        } else {
-            Ring {
-                sectors: 0,
-                turn: 0,
-                aim: 0,
-            }
+        Ring {
+            dome: Dome::new(sectors, turn, aim),
         }
     }
-}
 
-fn is_next(sectors: usize, from: usize, to: usize) -> bool
-    requires { from < sectors }
-    ensures { result ≡ follows sectors from to }
-{
-    to == from + 1 || (from + 1 == sectors && to == 0)
+    /// Name i of the list of names, if there are so many.
+    pub fn name(&self, i: usize) -> Option<&'static [u8]>
+        ensures { option_map (λ x. x.now) result ≡ slice_get (meaning_of self.now).names i }
+    {
+        self.dome?;
+        match i {
+            0 => Some(b"home"),
+            1 => Some(b"aim"),
+            _ => None,
+        }
+    }
 }
 
 /// The sectors are the states; sector 0 bears `home`, and the sector of the aim bears `aim`.
 impl Machine for Ring {
-    ghost model = { λ r. ring_model r.sectors r.turn r.aim };
+    ghost use Rattle.ring.specs.Meanings.{meaning_of};
+    ghost use Rattle.ring.specs.Laws.{ring_lawful};
+
+    ghost model = { meaning_of };
+
+    ghost lawful = { ring_lawful };
 
     fn states(&self) -> usize {
-        self.sectors as usize
+        match self.dome {
+            Some(dome) => dome.sectors(),
+            None => 0,
+        }
     }
 
     fn names(&self) -> usize {
-        if self.sectors > 0 { 2 } else { 0 }
+        if self.dome.is_some() { 2 } else { 0 }
     }
 
     fn knows(&self, word: &[u8]) -> bool {
-        self.sectors > 0 && (same_word(b"home", word) || same_word(b"aim", word))
+        match self.dome {
+            Some(_) => matches!(word, b"home" | b"aim"),
+            None => false,
+        }
     }
 
     fn bears(&self, state: usize, word: &[u8]) -> bool {
-        self.sectors > 0
-            && ((state == 0 && same_word(b"home", word))
-                || (state == self.aim as usize && same_word(b"aim", word)))
+        match self.dome {
+            Some(dome) => dome.bears(state, word),
+            None => false,
+        }
     }
 
     fn step(&self, from: usize, to: usize) -> Option<u16> {
-        let sectors = self.sectors as usize;
-        if from >= sectors || to >= sectors {
-            None
-        } else if from == to {
-            Some(1)
-        } else if is_next(sectors, from, to) || is_next(sectors, to, from) {
-            Some(self.turn)
-        } else {
-            None
-        }
+        self.dome?.step(from, to)
     }
 }

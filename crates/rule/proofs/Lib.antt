@@ -1,4 +1,3 @@
-mod Copies
 mod Ahead
 mod Growing
 mod Chains
@@ -6,5 +5,5 @@ mod Openings
 mod Operands
 mod Expressions
 mod Letters
-mod Rounds
+mod Order
 mod Wholes

@@ -3,3 +3,4 @@ pub mod Rules
 pub mod Drafts
 pub mod Openings
 pub mod Parsing
+pub mod Bindings

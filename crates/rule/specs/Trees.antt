@@ -3,6 +3,7 @@ use Rattle.std.specs.Prelude.{◌≡◌, ℕ, ◌+◌, ◌<◌, List, length, ta
 use Rattle.logic.specs.Formulas.{Formula, name, top, bottom, neg, both, either, path, cycle, Regular, letter, seq, alt, star, size}
 use Rattle.automaton.specs.declared.Automaton.{Automaton}
 use Rattle.automaton.specs.Automata.{AutomatonOf}
+use Rattle.automaton.specs.Built.{labels_of}
 use Rattle.rule.specs.declared.part.Part.{Part}
 use Rattle.rule.specs.declared.part.Part.TheVariants.{Name, True, False, Not, And, Or, Path, Cycle}
 
@@ -19,8 +20,8 @@ abbrev mutual
   Stands t ps k (neg f) = (i : ℕ) × Is ps k (Not i) × (i < k) × Stands t ps i f
   Stands t ps k (both f g) = (i : ℕ) × (j : ℕ) × Is ps k (And i j) × (i < k) × (j < k) × Stands t ps i f × Stands t ps j g
   Stands t ps k (either f g) = (i : ℕ) × (j : ℕ) × Is ps k (Or i j) × (i < k) × (j < k) × Stands t ps i f × Stands t ps j g
-  Stands t ps k (path q r f) = (a : Automaton) × (i : ℕ) × Is ps k (Path q a i) × (i < k) × Stands t ps i f × AutomatonOf r a × LettersStand t ps k a.letters.parts 0 r
-  Stands t ps k (cycle c r) = (a : Automaton) × Is ps k (Cycle c a) × AutomatonOf r a × LettersStand t ps k a.letters.parts 0 r
+  Stands t ps k (path q r f) = (a : Automaton) × (i : ℕ) × Is ps k (Path q a i) × (i < k) × Stands t ps i f × AutomatonOf r a × LettersStand t ps k (labels_of a.letters) 0 r
+  Stands t ps k (cycle c r) = (a : Automaton) × Is ps k (Cycle c a) × AutomatonOf r a × LettersStand t ps k (labels_of a.letters) 0 r
 
   -- each letter of r, numbered from o on, stands for a part below k, and that part for the letter's formula
   pub LettersStand : List ℕ → List Part → ℕ → List ℕ → ℕ → Regular → Type 0

@@ -1,9 +1,10 @@
 #![tactic(auto)]
 
 mod asked;
+mod binding;
 mod draft;
-mod faults;
 mod kept;
+mod next;
 mod opening;
 mod parser;
 mod part;

@@ -1,68 +1,40 @@
-ghost use Rattle.std.specs.Prelude.{◌≡◌, ◌≤◌, length, Some, MatchResult};
+ghost use Rattle.std.specs.Prelude.{◌≡◌, Some, MatchResult};
 ghost use Rattle.machine.specs.Model.{among};
 ghost use Rattle.grammar.specs.Words.{text_of};
-ghost use Rattle.grammar.specs.Judging.{start, judge, name_first};
+ghost use Rattle.grammar.specs.Judging.{start, judge};
 ghost use Rattle.rule.specs.Parsing.{ReadWhole};
 ghost use Rattle.rule.specs.Rules.{Taken, Denied};
 
-use crate::faults::unexpected;
+use crate::binding::Binding;
 use crate::kept::Rule;
+use crate::part::Part;
 use crate::store::Draft;
+use arrayvec::ArrayVec;
 use fault::{Fault, Reason};
 use machine::Machine;
-use word::{first_unknown, skip_gaps};
+use word::first_unknown;
 
-/// Reads a rule, whatever its names.
-fn parse(text: &[u8]) -> Result<Rule, Fault>
-    requires { length text.now ≤ 255 }
-    ensures { MatchResult result (ReadWhole text.now) (λ f. judge start (text_of text.now) ≡ Some f) }
+/// Reads the parts of a rule, whatever its names.
+fn parse(text: &[u8]) -> Result<ArrayVec<Part, 64>, Fault>
+    ensures { MatchResult result (λ parts. ReadWhole text.now parts.items) (λ f. judge start (text_of text.now) ≡ Some f) }
 {
     let mut draft = Draft::new(text);
-    let rest = draft.disjunction(text)?;
-    if skip_gaps(rest).len() > 0 {
-        return Err(unexpected(draft.total, rest));
+    draft.formula(Binding::Loose)?;
+    if !draft.is_over() {
+        return Err(draft.unexpected());
     }
-    Ok(Rule {
-        text: draft.text,
-        total: draft.total,
-        parts: draft.parts,
-        count: draft.count,
-    })
-}
-
-/// Whether an unknown name at this place comes before a fault.
-fn comes_first(place: usize, fault: Fault) -> bool
-    ensures { result ≡ name_first place fault }
-{
-    place < fault.place || (place == fault.place && fault.reason.number() > 10)
+    Ok(draft.parts)
 }
 
 /// Reads a rule for a machine, or says which fault of the text comes first.
 pub fn read<M: Machine>(text: &[u8], machine: &M) -> Result<Rule, Fault>
     ensures { MatchResult result (Taken (among (M.model machine.now).names) text.now) (Denied (among (M.model machine.now).names) text.now) }
 {
-    if text.len() > 255 {
-        return Err(Fault {
-            reason: Reason::TextTooLong,
-            place: 255,
-        });
-    }
-    let parsed = parse(text);
-    let Some(place) = first_unknown(text, machine) else {
-        return parsed;
-    };
-    let unknown = Fault {
-        reason: Reason::UnknownName,
-        place,
-    };
-    match parsed {
-        Ok(_) => Err(unknown),
-        Err(fault) => {
-            if comes_first(place, fault) {
-                Err(unknown)
-            } else {
-                Err(fault)
-            }
-        }
+    let kept = ArrayVec::try_from(text).map_err(|_| Reason::TextTooLong.at(255))?;
+    match (parse(text), first_unknown(text, machine)) {
+        (Ok(parts), None) => Ok(Rule { text: kept, parts }),
+        (Err(fault), None) => Err(fault),
+        (Ok(_), Some(place)) => Err(Reason::UnknownName.at(place)),
+        (Err(fault), Some(place)) => Err(fault.min(Reason::UnknownName.at(place))),
     }
 }

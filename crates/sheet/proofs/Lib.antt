@@ -1,6 +1,9 @@
-pub mod Unless
-pub mod Places
-pub mod Rooms
-pub mod Surveys
-pub mod Sought
-pub mod Shapes
+mod Chunks
+mod Judged
+mod Labels
+mod Meant
+mod Sought
+mod Steps
+mod Surveys
+mod Tails
+mod Words

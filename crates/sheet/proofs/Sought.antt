@@ -1,90 +1,116 @@
--- Looking for a step by halves.
-use Rattle.std.proofs.Common.{◌≡◌, ℕ, ◌+◌, ◌*◌, ◌<◌, ◌≤◌, true, false, ◌&&◌, eqb, ltb, List, length, Some, None, sym, ap, ◌∙◌, subst, inl, inr, arith}
-use Rattle.std.proofs.lemmas.List.FromFn.{length-map-range_with_len}
-use Rattle.std.proofs.lemmas.Bool.{cases_lt, cases_order, and_parts, or_parts, and_cases, eqb-true, eqb-false, eq-eqb, ltb-false, both_ways}
-use Rattle.layout.specs.Descriptions.{Step, Precedes, seconds_of, Proper}
-use Rattle.layout.specs.Fields.{step_at, step_there, step_in, step_count, described}
-use Rattle.layout.specs.Judging.{precedes, sheet_fault}
+-- Looking for a step among those that bytes describe.
+use Rattle.std.proofs.Common.{◌≡◌, ℕ, ◌<◌, ◌≤◌, ◌⊎◌, List, [], map, length, get_or, Some, None, Option, Ok, Err, Result, sym, refl, ap, ◌∙◌, subst, inl, inr, arith}
+use Rattle.std.specs.Cmp.{nat_cmp_is}
+use Rattle.std.specs.List.Sorted.{IsBinarySearchResult, IsSearchInRange, IsNonDecreasingBy}
+use Rattle.std.specs.Ordering.{nat_cmp, ordering_then, ordering_index}
+use Rattle.std.specs.declared.cmp.Ordering.{Ordering}
+use Rattle.std.specs.declared.cmp.Ordering.TheVariants.{Less, Equal, Greater}
+use Rattle.std.specs.Result.{result_ok}
+use Rattle.std.proofs.lemmas.Bool.{cases_lt, cases_order}
+use Rattle.std.proofs.lemmas.List.{get_or-map, length-map}
+use Rattle.fault.specs.declared.Fault.{Fault}
+use Rattle.layout.specs.Descriptions.{Step, no_step, step_of, Precedes, seconds_of}
+use Rattle.layout.specs.Fields.{step_there, described}
+use Rattle.layout.specs.Judging.{sheet_fault}
 use Rattle.layout.proofs.Numbers.{Bytes}
 use Rattle.layout.proofs.Faultless.{faultless}
-use Rattle.layout.proofs.Lookups.{ascends, precedes_trans, precedes_apart, seconds_at, seconds_none}
-use Rattle.layout.proofs.Reading.{proper, step_reads, precedes_so, in_order_next}
-use Rattle.sheet.specs.Sheets.{sought}
+use Rattle.layout.proofs.Lookups.{ascends, precedes_trans, seconds_at, seconds_none}
+use Rattle.layout.proofs.Reading.{proper}
+use Rattle.sheet.specs.Sheets.{described_unless, found_in}
 
--- the steps below an index come before the one that is sought, and those from an index on come after it
-abbrev pub Below : List ℕ → ℕ → ℕ → ℕ → Type 0
-Below bytes low s t = (i : ℕ) → i < low → Precedes (step_in bytes i) (sought s t)
+-- how a step compares with the states that are sought
+abbrev pub compared : Step → ℕ → ℕ → Ordering
+compared e s t = ordering_then (nat_cmp e.from s) (nat_cmp e.to t)
 
-abbrev pub Above : List ℕ → ℕ → ℕ → ℕ → ℕ → Type 0
-Above bytes high count s t = (i : ℕ) → high ≤ i → i < count → Precedes (sought s t) (step_in bytes i)
+abbrev sought : ℕ → ℕ → Step
+sought s t = record { from = s; to = t; seconds = 0 }
 
--- neither before it nor the same: after it
-pub after : (e : Step) (s t : ℕ) → precedes e (sought s t) ≡ false → (eqb e.from s && eqb e.to t) ≡ false → Precedes (sought s t) e
-after e s t b n =
-    let p = or_parts (ltb e.from s) (eqb e.from s && ltb e.to t) b in
-    let from = ltb-false e.from s p.0 in
-    elim (cases_order e.from s) [
-      | inr (inl l) ↦ absurd (omega arith)
-      | inr (inr g) ↦ inl g
-      | inl same ↦
-          let y = eq-eqb e.from s same in
-          let to : t ≤ e.to = elim (and_cases (eqb e.from s) (ltb e.to t) p.1) [ inl x ↦ absurd (both_ways (eqb e.from s) x y) | inr x ↦ ltb-false e.to t x ] in
-          let other : e.to ≡ t → ⊥ = elim (and_cases (eqb e.from s) (eqb e.to t) n) [ inl x ↦ absurd (both_ways (eqb e.from s) x y) | inr x ↦ eqb-false e.to t x ] in
-          elim (cases_order e.to t) [
-            | inl q ↦ absurd (other q)
-            | inr (inl l) ↦ absurd (omega arith)
-            | inr (inr g) ↦ inr (sym same, g)
-          ]
-    ]
+before : (e : Step) (s t : ℕ) → Precedes e (sought s t) → compared e s t ≡ Less
+before e s t (inl p) = rw (sym (nat_cmp_is e.from s Less p))
+before e s t (inr p) = rw (sym (nat_cmp_is e.from s Equal p.0), sym (nat_cmp_is e.to t Less p.1))
 
-module _ (bytes : List ℕ) (right : sheet_fault bytes ≡ None) (count : ℕ) (counted : count ≡ step_count bytes) where
-  -- step i lies within the bytes
-  pub step_room : (steps i : ℕ) → steps ≡ step_at bytes 0 → i < count → steps + 6 * i + 6 ≤ length bytes
-  step_room steps i e h = omega (arith, ((faultless bytes right).step i (omega (arith, counted))).room)
+here : (e : Step) (s t : ℕ) → e.from ≡ s → e.to ≡ t → compared e s t ≡ Equal
+here e s t p q = rw (sym (nat_cmp_is e.from s Equal p), sym (nat_cmp_is e.to t Equal q))
 
-  pub step_same : (steps i : ℕ) → steps ≡ step_at bytes 0 → step_there bytes (steps + 6 * i) ≡ step_in bytes i
-  step_same steps i e = ap (step_there bytes) {x = steps + 6 * i} {y = step_at bytes i} (omega arith)
+behind : (e : Step) (s t : ℕ) → Precedes (sought s t) e → compared e s t ≡ Greater
+behind e s t (inl p) = rw (sym (nat_cmp_is e.from s Greater p))
+behind e s t (inr p) = rw (sym (nat_cmp_is e.from s Equal (sym p.0)), sym (nat_cmp_is e.to t Greater p.1))
 
-  order : (i j : ℕ) → i < j → j < count → Precedes (step_in bytes i) (step_in bytes j)
-  order i j h l =
-      ascends (step_in bytes) (step_count bytes) (λ k b. in_order_next bytes k ((faultless bytes right).step (k + 1) b).order) i j h (omega (arith, counted))
+three_ways : (e : Step) (s t : ℕ) → Precedes e (sought s t) ⊎ ((e.from ≡ s) × (e.to ≡ t)) ⊎ Precedes (sought s t) e
+three_ways e s t = elim (cases_order e.from s) [
+  | inl p ↦ elim (cases_order e.to t) [ inl q ↦ inr (inl (p, q)) | inr (inl l) ↦ inl (inr (p, l)) | inr (inr g) ↦ inr (inr (inr (sym p, g))) ]
+  | inr (inl l) ↦ inl (inl l)
+  | inr (inr g) ↦ inr (inr (inl g))
+]
 
-  pub below_more : (m s t : ℕ) → m < count → precedes (step_in bytes m) (sought s t) ≡ true → Below bytes (m + 1) s t
-  below_more m s t h e i b =
-      let here = precedes_so (step_in bytes m) (sought s t) e in
-      elim (cases_lt i m) [
-        | inl l ↦ precedes_trans (step_in bytes i) (step_in bytes m) (sought s t) (order i m l h) here
-        | inr g ↦ let q : m ≡ i = omega arith in subst (λ (k : ℕ). Precedes (step_in bytes k) (sought s t)) q here
-      ]
+follows_same : (e f : Step) (s t : ℕ) → Precedes e f → e.from ≡ s → e.to ≡ t → Precedes (sought s t) f
+follows_same e f s t (inl p) q r = inl (omega arith)
+follows_same e f s t (inr p) q r = inr (sym q ∙ p.0, omega (arith, p.1))
 
-  pub above_more : (m s t : ℕ) → precedes (step_in bytes m) (sought s t) ≡ false → (eqb (step_in bytes m).from s && eqb (step_in bytes m).to t) ≡ false → Above bytes m count s t
-  above_more m s t b n i g l =
-      let here = after (step_in bytes m) s t b n in
-      elim (cases_lt m i) [
-        | inl h ↦ precedes_trans (sought s t) (step_in bytes m) (step_in bytes i) here (order m i h l)
-        | inr h ↦ let q : m ≡ i = omega arith in subst (λ (k : ℕ). Precedes (sought s t) (step_in bytes k)) q here
-      ]
+rises : (e f : Step) (s t : ℕ) → Precedes e f → ordering_index (compared e s t) ≤ ordering_index (compared f s t)
+rises e f s t h = elim (three_ways e s t) [
+  | inl p ↦ omega (arith, ap ordering_index (before e s t p))
+  | inr (inl p) ↦ omega (arith, ap ordering_index (here e s t p.0 p.1), ap ordering_index (behind f s t (follows_same e f s t h p.0 p.1)))
+  | inr (inr p) ↦ omega (arith, ap ordering_index (behind e s t p), ap ordering_index (behind f s t (precedes_trans (sought s t) e f p h)))
+]
 
-  module _ (ok : Bytes bytes) where
-    description_proper : Proper (described bytes)
-    description_proper = proper bytes ok (faultless bytes right)
+equal_here : (e : Step) (s t : ℕ) → compared e s t ≡ Equal → (e.from ≡ s) × (e.to ≡ t)
+equal_here e s t q = elim (three_ways e s t) [
+  | inl p ↦ absurd (omega (arith, ap ordering_index (sym (before e s t p) ∙ q)))
+  | inr (inl p) ↦ p
+  | inr (inr p) ↦ absurd (omega (arith, ap ordering_index (sym (behind e s t p) ∙ q)))
+]
 
-    pub found : (m s t : ℕ) → m < count → (eqb (step_in bytes m).from s && eqb (step_in bytes m).to t) ≡ true → seconds_of (described bytes).steps s t ≡ Some (step_in bytes m).seconds
-    found m s t h e =
-        let lt : m < step_count bytes = omega (arith, counted) in
-        let p = and_parts (eqb (step_in bytes m).from s) (eqb (step_in bytes m).to t) e in
-        let reads = step_reads bytes m lt in
-        seconds_at (described bytes) description_proper m s t (omega (arith, length-map-range_with_len (step_in bytes) 0 (step_count bytes)))
-        (ap (λ (x : Step). x.from) reads ∙ eqb-true (step_in bytes m).from s p.0) (ap (λ (x : Step). x.to) reads ∙ eqb-true (step_in bytes m).to t p.1)
-        ∙ ap (λ (x : Step). Some x.seconds) reads
+-- entries that say the steps which bytes describe
+module _ (bytes : List ℕ) (ok : Bytes bytes) (entries : List (List ℕ)) (says : map (λ e. step_there e 0) entries ≡ (found_in bytes).steps) where
+  abbrev entry : ℕ → Step
+  entry i = step_there (get_or entries i []) 0
 
-  pub not_found : (m s t : ℕ) → Below bytes m s t → Above bytes m count s t → seconds_of (described bytes).steps s t ≡ None
-  not_found m s t below above = seconds_none (described bytes).steps s t (λ i h p q.
-      let lt : i < step_count bytes = omega (arith, length-map-range_with_len (step_in bytes) 0 (step_count bytes)) in
-      let reads = step_reads bytes i lt in
-      let from = sym (ap (λ (x : Step). x.from) reads) ∙ p in
-      let to = sym (ap (λ (x : Step). x.to) reads) ∙ q in
-      elim (cases_lt i m) [
-        | inl l ↦ precedes_apart (step_in bytes i) (sought s t) (below i l) from to
-        | inr g ↦ precedes_apart (sought s t) (step_in bytes i) (above i g (omega (arith, counted))) (sym from) (sym to)
+  all_said : length entries ≡ length (found_in bytes).steps
+  all_said = sym (length-map entries (λ e. step_there e 0)) ∙ ap length says
+
+  said : (i : ℕ) (d : List ℕ) → i < length entries → step_of (found_in bytes) i ≡ step_there (get_or entries i d) 0
+  said i d h = ap (λ es. get_or es i no_step) (sym says) ∙ get_or-map (λ e. step_there e 0) entries i d no_step h
+
+  found_ascends : (i j : ℕ) → i < j → j < length (found_in bytes).steps → Precedes (step_of (found_in bytes) i) (step_of (found_in bytes) j)
+  found_ascends = go (sheet_fault bytes) refl
+    where
+      go : (o : Option Fault) → sheet_fault bytes ≡ o → (i j : ℕ) → i < j → j < length (described_unless o bytes).steps → Precedes (step_of (described_unless o bytes) i) (step_of (described_unless o bytes) j)
+      go None e = ascends (step_of (described bytes)) (length (described bytes).steps) (proper bytes ok (faultless bytes e)).ascending
+      go (Some f) e = λ i j h l. absurd (omega arith)
+
+  found_at : (i s t : ℕ) → i < length (found_in bytes).steps → (step_of (found_in bytes) i).from ≡ s → (step_of (found_in bytes) i).to ≡ t → seconds_of (found_in bytes).steps s t ≡ Some (step_of (found_in bytes) i).seconds
+  found_at = go (sheet_fault bytes) refl
+    where
+      go : (o : Option Fault) → sheet_fault bytes ≡ o → (i s t : ℕ) → i < length (described_unless o bytes).steps → (step_of (described_unless o bytes) i).from ≡ s → (step_of (described_unless o bytes) i).to ≡ t → seconds_of (described_unless o bytes).steps s t ≡ Some (step_of (described_unless o bytes) i).seconds
+      go None e = seconds_at (described bytes) (proper bytes ok (faultless bytes e))
+      go (Some f) e = λ i s t h. absurd (omega arith)
+
+  rise : (s t : ℕ) → IsNonDecreasingBy (λ e. ordering_index (compared (step_there e 0) s t)) entries
+  rise s t i j d h l = elim (cases_lt i j) [
+    | inl b ↦
+        let ahead = subst (λ (x : Step). Precedes x (step_of (found_in bytes) j)) (said i d (omega arith)) (found_ascends i j b (omega (arith, all_said))) in
+        rises (step_there (get_or entries i d) 0) (step_there (get_or entries j d) 0) s t (subst (λ (y : Step). Precedes (step_there (get_or entries i d) 0) y) (said j d l) ahead)
+    | inr g ↦ let e : i ≡ j = omega arith in omega (arith, ap (λ k. ordering_index (compared (step_there (get_or entries k d) 0) s t)) e)
+  ]
+
+  pub step_found : (s t i : ℕ) (r : Result ℕ ℕ) → Some i ≡ result_ok r → IsSearchInRange r (length entries) → IsBinarySearchResult (λ e. compared (step_there e 0) s t) entries r → seconds_of (found_in bytes).steps s t ≡ Some (entry i).seconds
+  step_found s t i (Ok j) e h is =
+      let same : i ≡ j = cc in
+      let l : i < length entries = omega (arith, h) in
+      let p = equal_here (entry i) s t (ap (λ k. compared (entry k) s t) same ∙ is []) in
+      let at = said i [] l in
+      found_at i s t (omega (arith, all_said)) (ap (λ (x : Step). x.from) at ∙ p.0) (ap (λ (x : Step). x.to) at ∙ p.1) ∙ ap (λ (x : Step). Some x.seconds) at
+  step_found s t i (Err j) e h is = let z : ◌≡◌ {A = ℕ} 0 1 = cc in absurd (omega arith)
+
+  pub step_missed : (s t : ℕ) (r : Result ℕ ℕ) → None ≡ result_ok r → IsBinarySearchResult (λ e. compared (step_there e 0) s t) entries r → seconds_of (found_in bytes).steps s t ≡ None
+  step_missed s t (Ok j) e is = let z : ◌≡◌ {A = ℕ} 0 1 = cc in absurd (omega arith)
+  step_missed s t (Err j) e is = seconds_none (found_in bytes).steps s t (λ i h p q.
+      let l : i < length entries = omega (arith, all_said) in
+      let at = said i [] l in
+      let equal = here (entry i) s t (sym (ap (λ (x : Step). x.from) at) ∙ p) (sym (ap (λ (x : Step). x.to) at) ∙ q) in
+      let parts = is (rise s t) in
+      elim (cases_lt i j) [
+        | inl b ↦ omega (arith, ap ordering_index (sym equal ∙ parts.0 i [] (omega arith) b))
+        | inr g ↦ omega (arith, ap ordering_index (sym equal ∙ parts.1 i [] g l))
       ])

@@ -1,31 +1,32 @@
 -- What examining and opening a sheet answers.
-use Rattle.std.specs.Prelude.{◌≡◌, ℕ, ◌<◌, true, false, List, Some, None, Option}
+use Rattle.std.specs.Prelude.{◌≡◌, ℕ, ◌<◌, true, false, List, [], map, Some, None, Option}
 use Rattle.fault.specs.declared.Fault.{Fault}
-use Rattle.layout.specs.Descriptions.{Step}
-use Rattle.layout.specs.Fields.{state_count, name_count, labels_at, step_count, step_at}
+use Rattle.layout.specs.Descriptions.{Description}
+use Rattle.layout.specs.Fields.{u32_at, step_there, described}
 use Rattle.layout.specs.Judging.{some_leave, sheet_fault}
-use Rattle.sheet.specs.declared.shape.Shape.{Shape}
+use Rattle.sheet.specs.declared.parts.Parts.{Parts}
+use Rattle.sheet.specs.Fields.{words_in}
 
--- where the parts of a sheet stand
-abbrev pub shape_in : List ℕ → Shape
-shape_in bytes =
-    record { states = state_count bytes; names = name_count bytes; labels = labels_at bytes; count = step_count bytes; steps = step_at bytes 0 }
+-- what the parts of a sheet say
+abbrev pub said_by : Parts → Description
+said_by parts = record {
+  names = words_in parts.names.count parts.names.bytes.now;
+  labels = map (λ entry. u32_at entry 0) parts.labels.now;
+  steps = map (λ entry. step_there entry 0) parts.steps.now;
+}
 
-abbrev pub no_shape : Shape
-no_shape = record { states = 0; names = 0; labels = 0; count = 0; steps = 0 }
+abbrev pub nothing : Description
+nothing = record { names = []; labels = []; steps = [] }
 
-abbrev pub shape_unless : Option Fault → List ℕ → Shape
-shape_unless None bytes = shape_in bytes
-shape_unless (Some f) bytes = no_shape
+-- what bytes describe: nothing if they have a fault
+abbrev pub described_unless : Option Fault → List ℕ → Description
+described_unless None bytes = described bytes
+described_unless (Some f) bytes = nothing
 
-abbrev pub shape_of : List ℕ → Shape
-shape_of bytes = shape_unless (sheet_fault bytes) bytes
+abbrev pub found_in : List ℕ → Description
+found_in bytes = described_unless (sheet_fault bytes) bytes
 
 -- the lowest state that none of the first m steps leaves
 pub record Lowest (bytes : List ℕ) (m low : ℕ) : Type 0 where
   pub below : (s : ℕ) → s < low → some_leave bytes s m ≡ true
   pub here : some_leave bytes low m ≡ false
-
--- a step by its two states
-abbrev pub sought : ℕ → ℕ → Step
-sought s t = record { from = s; to = t; seconds = 0 }

@@ -1,10 +1,11 @@
 #![tactic(auto)]
 
+mod entries;
 mod examination;
-mod field;
+mod names;
 mod opened;
-mod search;
-mod shape;
+mod parts;
+mod reader;
 mod survey;
 
 pub use examination::examine;

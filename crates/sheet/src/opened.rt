@@ -1,8 +1,8 @@
 ghost use Rattle.std.specs.Prelude.{◌≡◌, ℕ, ◌<◌};
 ghost use Rattle.layout.specs.Fields.{byte_at};
-ghost use Rattle.sheet.specs.Sheets.{shape_of};
+ghost use Rattle.sheet.specs.Sheets.{said_by, found_in};
 
-use crate::shape::Shape;
+use crate::parts::Parts;
 
 pub mod questions;
 
@@ -10,7 +10,7 @@ pub mod questions;
 #[derive(Clone, Copy)]
 pub struct Sheet<'a> {
     bytes: &'a [u8],
-    shape: Shape,
+    parts: Parts<'a>,
     ghost octets: { (i : ℕ) → byte_at bytes.now i < 256 },
-    ghost found: { shape ≡ shape_of bytes.now },
+    ghost found: { said_by parts ≡ found_in bytes.now },
 }

@@ -1,260 +1,202 @@
-ghost use Rattle.std.specs.Prelude.{◌≡◌, ◌+◌, ◌^◌, ◌≤◌, not, ◌&&◌, map, length, Some, None, MatchResult, nat_lt};
-ghost use Rattle.std.specs.List.{range_with_len};
-ghost use Rattle.fault.specs.declared.Reason.TheVariants.{BadEntry};
-ghost use Rattle.fault.specs.Refusals.{at, unless};
+ghost use Rattle.std.specs.Prelude.{◌≡◌, ◌+◌, ◌^◌, ◌≤◌, not, ◌&&◌, map, length, Some, None, MatchResult, OnOk, nat_lt};
+ghost use Rattle.std.specs.List.{range_with_len, position};
+ghost use Rattle.fault.specs.Refusals.{unless};
 ghost use Rattle.machine.specs.Model.{among};
 ghost use Rattle.machine.specs.Names.{is_name};
-ghost use Rattle.layout.specs.Descriptions.{place_from};
-ghost use Rattle.layout.specs.Fields.{byte_at, u32_at, state_count, name_count, name_at, word_at, name_in, labels_at, label_at, step_count_at, step_count, step_at, step_there, step_in};
-ghost use Rattle.layout.specs.Judging.{field, precedes, mark_fault, header_fault, name_fault, label_fault, step_fault, first_fault, tail_fault, sheet_fault};
-ghost use Rattle.sheet.specs.Sheets.{shape_in, Lowest};
+ghost use Rattle.layout.specs.Fields.{u32_at, state_count, name_count, name_at, labels_at, label_at, label_in, step_count_at, step_at, step_there, step_in, described};
+ghost use Rattle.layout.specs.Judging.{mark_fault, header_fault, name_fault, label_fault, step_fault, first_fault, tail_fault, sheet_fault};
+ghost use Rattle.sheet.specs.Listed.{names_of};
+ghost use Rattle.sheet.specs.Fields.{follows};
+ghost use Rattle.sheet.specs.Readers.{ReadsOn};
+ghost use Rattle.sheet.specs.Sheets.{Lowest, said_by};
 
-use crate::field::{complete, long_number, number};
-use crate::shape::Shape;
+use crate::entries::{joined, label};
+use crate::names::Names;
+use crate::parts::Parts;
+use crate::reader::Reader;
 use fault::{Fault, Reason};
-use machine::name::{is_name, same_word};
+use machine::name::is_name;
 
-fn mark(bytes: &[u8]) -> Result<(), Fault>
-    ensures { result ≡ unless (mark_fault bytes.now) tt }
+/// Judges the mark.
+fn mark(reader: &mut Reader) -> Result<(), Fault>
+    requires start { reader.old.place ≡ 0 }
+    ensures judged { result ≡ unless (mark_fault reader.old.bytes.now) tt }
+    ensures moved { OnOk result (ReadsOn reader.old reader.new 3) }
 {
-    complete(bytes, 0, 3)?;
-    if bytes[0] != b'M' || bytes[1] != b'O' || bytes[2] != b'D' {
-        return Err(Fault {
-            reason: Reason::BadMark,
-            place: 0,
-        });
+    if reader.take()? != b"MOD" {
+        return Err(Reason::BadMark.at(0));
     }
     Ok(())
 }
 
-fn header(bytes: &[u8]) -> Result<(), Fault>
-    ensures { result ≡ unless (header_fault bytes.now) tt }
+/// Judges the header, and answers how many states and names there are.
+fn header(reader: &mut Reader) -> Result<(usize, usize), Fault>
+    requires start { reader.old.place ≡ 0 }
+    ensures judged { result ≡ unless (header_fault reader.old.bytes.now) (state_count reader.old.bytes.now, name_count reader.old.bytes.now) }
+    ensures moved { OnOk result (ReadsOn reader.old reader.new 8) }
 {
-    mark(bytes)?;
-    complete(bytes, 3, 2)?;
-    if number(bytes, 3) != 1 {
-        return Err(Fault {
-            reason: Reason::BadMark,
-            place: 3,
-        });
+    mark(reader)?;
+    if reader.number()? != 1 {
+        return Err(Reason::BadMark.at(3));
     }
-    complete(bytes, 5, 2)?;
-    let states = number(bytes, 5);
+    let states = reader.number()?;
     if states == 0 || states > 1024 {
-        return Err(Fault {
-            reason: Reason::BadCount,
-            place: 5,
-        });
+        return Err(Reason::BadCount.at(5));
     }
-    complete(bytes, 7, 1)?;
-    if bytes[7] > 32 {
-        return Err(Fault {
-            reason: Reason::BadCount,
-            place: 7,
-        });
+    let names = reader.byte()?;
+    if names > 32 {
+        return Err(Reason::BadCount.at(7));
     }
-    Ok(())
+    Ok((usize::from(states), usize::from(names)))
 }
 
-/// The word whose length byte stands at this offset.
-pub(crate) fn word_there(bytes: &[u8], offset: usize) -> &[u8]
-    requires { offset + 1 + byte_at bytes.now offset ≤ length bytes.now }
-    ensures value { result.now ≡ word_at bytes.now offset }
-    ensures len { length result.now ≡ byte_at bytes.now offset }
+/// Whether a word is a name and none of the earlier names.
+fn is_new_name(earlier: Names, word: &[u8]) -> bool
+    ensures { result ≡ (is_name word.now && not (among (names_of earlier.entry) word.now)) }
 {
-    let size = bytes[offset] as usize;
-    &bytes[offset + 1..offset + 1 + size]
+    is_name(word) && !earlier.has(word)
 }
 
-/// The place of a word among the first names of a sheet.
-pub(crate) fn place(bytes: &[u8], count: usize, word: &[u8]) -> Option<usize>
-    requires { first_fault count (name_fault bytes.now) ≡ None }
-    ensures { result ≡ place_from 0 (map (name_in bytes.now) (range_with_len 0 count)) word.now }
+/// Judges name i, the next one.
+fn name_entry(reader: &mut Reader, i: usize) -> Result<(), Fault>
+    requires here { reader.old.place ≡ name_at reader.old.bytes.now i }
+    requires header { 8 ≤ length reader.old.bytes.now }
+    requires before { first_fault i (name_fault reader.old.bytes.now) ≡ None }
+    ensures judged { result ≡ unless (name_fault reader.old.bytes.now i) tt }
+    ensures moved { OnOk result (ReadsOn reader.old reader.new (name_at reader.old.bytes.now (i + 1))) }
 {
-    let mut offset = 8;
-    for i in 0..count {
-        let name = word_there(bytes, offset);
-        if same_word(name, word) {
-            return Some(i);
-        }
-        offset = offset + 1 + name.len();
-    }
-    None
-}
-
-/// Where name i begins.
-pub(crate) fn name_start(bytes: &[u8], i: usize) -> usize
-    requires { first_fault i (name_fault bytes.now) ≡ None }
-    ensures { result ≡ name_at bytes.now i }
-{
-    let mut offset = 8;
-    for _ in 0..i {
-        offset = offset + 1 + word_there(bytes, offset).len();
-    }
-    offset
-}
-
-/// Whether a word is a name and none of the first names of a sheet.
-fn is_new_name(bytes: &[u8], count: usize, word: &[u8]) -> bool
-    requires { first_fault count (name_fault bytes.now) ≡ None }
-    ensures { result ≡ (is_name word.now && not (among (map (name_in bytes.now) (range_with_len 0 count)) word.now)) }
-{
-    is_name(word) && place(bytes, count, word).is_none()
-}
-
-/// Judges name i, and answers where the next one begins.
-fn name_entry(bytes: &[u8], i: usize, offset: usize) -> Result<usize, Fault>
-    requires here { offset ≡ name_at bytes.now i }
-    requires within { offset ≤ length bytes.now }
-    requires before { first_fault i (name_fault bytes.now) ≡ None }
-    ensures { result ≡ unless (name_fault bytes.now i) (name_at bytes.now (i + 1)) }
-{
-    complete(bytes, offset, 1)?;
-    let size = bytes[offset] as usize;
+    let place = reader.place();
+    let size = reader.byte()?;
     if size == 0 || size > 16 {
-        return Err(Fault {
-            reason: Reason::BadEntry,
-            place: offset,
-        });
+        return Err(Reason::BadEntry.at(place));
     }
-    complete(bytes, offset + 1, size)?;
-    if !is_new_name(bytes, i, word_there(bytes, offset)) {
-        return Err(Fault {
-            reason: Reason::BadEntry,
-            place: offset,
-        });
-    }
-    Ok(offset + 1 + size)
-}
-
-/// Judges the names, and answers where they end.
-fn names(bytes: &[u8], count: usize) -> Result<usize, Fault>
-    requires { 8 ≤ length bytes.now }
-    ensures { result ≡ unless (first_fault count (name_fault bytes.now)) (name_at bytes.now count) }
-{
-    let mut offset = 8;
-    for i in 0..count {
-        offset = name_entry(bytes, i, offset)?;
-    }
-    Ok(offset)
-}
-
-/// Judges a label that has to be below a limit.
-fn label_entry(bytes: &[u8], offset: usize, limit: usize) -> Result<(), Fault>
-    requires { offset ≤ length bytes.now }
-    ensures { result ≡ unless (field bytes.now offset 4 (nat_lt (u32_at bytes.now offset) limit) (at BadEntry offset)) tt }
-{
-    complete(bytes, offset, 4)?;
-    if long_number(bytes, offset) >= limit {
-        return Err(Fault {
-            reason: Reason::BadEntry,
-            place: offset,
-        });
+    let word = reader.word(usize::from(size))?;
+    let earlier = Names::first(reader.bytes(), i);
+    if !is_new_name(earlier, word) {
+        return Err(Reason::BadEntry.at(place));
     }
     Ok(())
 }
 
-/// Judges the labels, and answers where they end.
-fn labels(bytes: &[u8], offset: usize, states: usize, limit: usize) -> Result<usize, Fault>
-    requires here { offset ≡ labels_at bytes.now }
-    requires within { offset ≤ length bytes.now }
-    requires limit { limit ≡ 2 ^ name_count bytes.now }
-    ensures { result ≡ unless (first_fault states (label_fault bytes.now)) (label_at bytes.now states) }
+/// Judges the names.
+fn names(reader: &mut Reader, count: usize) -> Result<(), Fault>
+    requires here { reader.old.place ≡ 8 }
+    ensures judged { result ≡ unless (first_fault count (name_fault reader.old.bytes.now)) tt }
+    ensures moved { OnOk result (ReadsOn reader.old reader.new (name_at reader.old.bytes.now count)) }
 {
-    for s in 0..states {
-        label_entry(bytes, offset + 4 * s, limit)?;
-    }
-    Ok(offset + 4 * states)
-}
-
-/// Whether the step at one offset comes before the step at another.
-fn comes_before(bytes: &[u8], left: usize, right: usize) -> bool
-    requires left { left + 6 ≤ length bytes.now }
-    requires right { right + 6 ≤ length bytes.now }
-    ensures { result ≡ precedes (step_there bytes.now left) (step_there bytes.now right) }
-{
-    let from = number(bytes, left);
-    let other = number(bytes, right);
-    from < other || (from == other && number(bytes, left + 2) < number(bytes, right + 2))
-}
-
-/// Judges step i, and answers the state that it leaves.
-fn step_entry(bytes: &[u8], i: usize, offset: usize, states: usize) -> Result<usize, Fault>
-    requires here { offset ≡ step_at bytes.now i }
-    requires within { offset ≤ length bytes.now }
-    requires states { states ≡ state_count bytes.now }
-    ensures { result ≡ unless (step_fault bytes.now i) (step_in bytes.now i).from }
-{
-    complete(bytes, offset, 6)?;
-    let from = number(bytes, offset);
-    let to = number(bytes, offset + 2);
-    if from < states && to < states && (i == 0 || comes_before(bytes, offset - 6, offset)) {
-        return Ok(from);
-    }
-    Err(Fault {
-        reason: Reason::BadEntry,
-        place: offset,
-    })
-}
-
-/// Judges the steps, and answers the lowest state that none of them leaves.
-fn steps(bytes: &[u8], offset: usize, count: usize, states: usize) -> Result<usize, Fault>
-    requires here { offset ≡ step_at bytes.now 0 }
-    requires within { offset ≤ length bytes.now }
-    requires states { states ≡ state_count bytes.now }
-    ensures { MatchResult result (λ low. (first_fault count (step_fault bytes.now) ≡ None) × Lowest bytes.now count low) (λ f. first_fault count (step_fault bytes.now) ≡ Some f) }
-{
-    let mut low = 0;
     for i in 0..count {
-        let from = step_entry(bytes, i, offset + 6 * i, states)?;
-        if from == low {
+        name_entry(reader, i)?;
+    }
+    Ok(())
+}
+
+/// The first label with a bit that stands for none of so many names.
+fn first_unlisted(labels: &[[u8; 4]], names: usize) -> Option<usize>
+    requires { names ≤ 32 }
+    ensures { result ≡ position (λ entry. not (nat_lt (u32_at entry 0) (2 ^ names))) labels.now }
+{
+    let limit = 1u64 << names;
+    labels
+        .iter()
+        .position(|entry| u64::from(label(entry)) >= limit)
+}
+
+/// Judges the labels, whose bits stand for so many names.
+fn labels<'a>(reader: &mut Reader<'a>, states: usize, names: usize) -> Result<&'a [[u8; 4]], Fault>
+    requires here { reader.old.place ≡ labels_at reader.old.bytes.now }
+    requires names { names ≡ name_count reader.old.bytes.now }
+    requires few_names { names ≤ 32 }
+    ensures judged { MatchResult result (λ x. (first_fault states (label_fault reader.old.bytes.now) ≡ None) × (map (λ entry. u32_at entry 0) x.now ≡ map (label_in reader.old.bytes.now) (range_with_len 0 states))) (λ f. first_fault states (label_fault reader.old.bytes.now) ≡ Some f) }
+    ensures moved { OnOk result (ReadsOn reader.old reader.new (label_at reader.old.bytes.now states)) }
+{
+    let place = reader.place();
+    let labels = reader.entries(states);
+    if let Some(s) = first_unlisted(labels, names) {
+        return Err(Reason::BadEntry.at(place + 4 * s));
+    }
+    if labels.len() < states {
+        return Err(reader.cut_short());
+    }
+    Ok(labels)
+}
+
+/// Whether a step joins two states and comes after the one before it.
+fn is_next(key: (usize, usize), last: Option<(usize, usize)>, states: usize) -> bool
+    ensures { result ≡ (nat_lt key.0 states && (nat_lt key.1 states && follows last key)) }
+{
+    // A `match`: with `is_none_or`, opening a sheet takes 1.5 times as long.
+    let in_order = match last {
+        None => true,
+        Some(last) => last < key,
+    };
+    key.0 < states && key.1 < states && in_order
+}
+
+/// Judges the steps one by one, and answers the lowest state that none of them leaves.
+// Kept apart: inlined into its callers, its loop makes opening a sheet take 1.7 times as long.
+#[inline(never)]
+fn steps<'a>(
+    reader: &mut Reader<'a>,
+    count: usize,
+    states: usize,
+) -> Result<(&'a [[u8; 6]], usize), Fault>
+    requires here { reader.old.place ≡ step_at reader.old.bytes.now 0 }
+    requires states { states ≡ state_count reader.old.bytes.now }
+    ensures judged { MatchResult result (λ x. (first_fault count (step_fault reader.old.bytes.now) ≡ None) × Lowest reader.old.bytes.now count x.1 × (map (λ entry. step_there entry 0) x.0.now ≡ map (step_in reader.old.bytes.now) (range_with_len 0 count))) (λ f. first_fault count (step_fault reader.old.bytes.now) ≡ Some f) }
+    ensures moved { OnOk result (ReadsOn reader.old reader.new (step_at reader.old.bytes.now count)) }
+{
+    let place = reader.place();
+    let steps = reader.entries(count);
+    // Order and ways out in one pass, so that each entry is read once. The lowest state that is left out is a count and no
+    // Option: at the number of states there is none.
+    let mut low = 0;
+    let mut last = None;
+    for (i, entry) in steps.iter().enumerate() {
+        let key = joined(entry);
+        if !is_next(key, last, states) {
+            return Err(Reason::BadEntry.at(place + 6 * i));
+        }
+        if key.0 == low {
             low += 1;
         }
+        last = Some(key);
     }
-    Ok(low)
+    if steps.len() < count {
+        return Err(reader.cut_short());
+    }
+    Ok((steps, low))
 }
 
-/// Judges what follows the labels, which end at this offset.
-fn tail(bytes: &[u8], offset: usize, states: usize) -> Result<usize, Fault>
-    requires here { offset ≡ step_count_at bytes.now }
-    requires within { offset ≤ length bytes.now }
-    requires states { states ≡ state_count bytes.now }
-    ensures { result ≡ unless (tail_fault bytes.now) (step_count bytes.now) }
+/// Judges what follows the labels.
+fn tail<'a>(reader: &mut Reader<'a>, states: usize) -> Result<&'a [[u8; 6]], Fault>
+    requires here { reader.old.place ≡ step_count_at reader.old.bytes.now }
+    requires states { states ≡ state_count reader.old.bytes.now }
+    ensures { MatchResult result (λ x. (tail_fault reader.old.bytes.now ≡ None) × (map (λ entry. step_there entry 0) x.now ≡ (described reader.old.bytes.now).steps)) (λ f. tail_fault reader.old.bytes.now ≡ Some f) }
 {
-    complete(bytes, offset, 2)?;
-    let count = number(bytes, offset);
-    let low = steps(bytes, offset + 2, count, states)?;
+    let count = reader.number()?;
+    let (steps, low) = steps(reader, usize::from(count), states)?;
     if low < states {
-        return Err(Fault {
-            reason: Reason::NoWayOut,
-            place: low,
-        });
+        return Err(Reason::NoWayOut.at(low));
     }
-    let end = offset + 2 + 6 * count;
-    if end < bytes.len() {
-        return Err(Fault {
-            reason: Reason::LeftOver,
-            place: end,
-        });
+    if !reader.rest().is_empty() {
+        return Err(Reason::LeftOver.at(reader.place()));
     }
-    Ok(count)
+    Ok(steps)
 }
 
-/// Judges a sheet from front to back, and answers where its parts stand.
-pub(crate) fn survey(bytes: &[u8]) -> Result<Shape, Fault>
-    ensures { result ≡ unless (sheet_fault bytes.now) (shape_in bytes.now) }
+/// Judges a sheet from front to back, and answers its parts.
+pub(crate) fn survey(bytes: &[u8]) -> Result<Parts<'_>, Fault>
+    ensures { MatchResult result (λ parts. (sheet_fault bytes.now ≡ None) × (said_by parts ≡ described bytes.now)) (λ f. sheet_fault bytes.now ≡ Some f) }
 {
-    header(bytes)?;
-    let states = number(bytes, 5);
-    let name_count = bytes[7] as usize;
-    let labels_start = names(bytes, name_count)?;
-    let offset = labels(bytes, labels_start, states, 1 << name_count)?;
-    let count = tail(bytes, offset, states)?;
-    Ok(Shape {
-        states,
-        names: name_count,
-        labels: labels_start,
-        count,
-        steps: offset + 2,
+    let mut reader = Reader::new(bytes);
+    let (states, count) = header(&mut reader)?;
+    names(&mut reader, count)?;
+    let labels = labels(&mut reader, states, count)?;
+    let steps = tail(&mut reader, states)?;
+    let names = Names::first(bytes, count);
+    Ok(Parts {
+        names,
+        labels,
+        steps,
     })
 }

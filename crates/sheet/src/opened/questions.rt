@@ -7,11 +7,25 @@ ghost use Rattle.layout.specs.Encoding.{encode};
 ghost use Rattle.layout.specs.Judging.{sheet_model};
 
 use super::Sheet;
-use crate::field::long_number;
-use crate::search::{is_set, seconds};
-use crate::shape::Shape;
-use crate::survey::{name_start, place, survey, word_there};
+use crate::entries::{is_set, joined, label, seconds};
+use crate::parts::Parts;
+use crate::survey::survey;
+use fault::Fault;
 use machine::Machine;
+
+/// The sheet that these bytes are: they are one if they encode a proper description, else the first fault from front to back says why not.
+impl<'a> TryFrom<&'a [u8]> for Sheet<'a> {
+    ghost use Rattle.sheet.specs.Opened.{Opens};
+
+    type Error = Fault;
+
+    ghost try_from_gives = { λ bytes r. Opens bytes.now r };
+
+    fn try_from(bytes: &'a [u8]) -> Result<Sheet<'a>, Fault> {
+        let parts = survey(bytes)?;
+        Ok(Sheet { bytes, parts })
+    }
+}
 
 impl<'a> Sheet<'a> {
     /// The sheet that these bytes are. Bytes that are none give a sheet without states and names.
@@ -20,53 +34,50 @@ impl<'a> Sheet<'a> {
         ensures means { (d : Description) → Proper d → encode d ≡ bytes.now → sheet_model result.bytes.now ≡ meaning d }
         ensures otherwise { ((d : Description) → Proper d → encode d ≢ bytes.now) → sheet_model result.bytes.now ≡ empty }
     {
-        let shape = match survey(bytes) {
-            Ok(shape) => shape,
-            Err(_) => Shape::none(),
-        };
-        Sheet { bytes, shape }
+        let parts = survey(bytes).unwrap_or(Parts::none());
+        Sheet { bytes, parts }
     }
 
     /// Name i of the list of names, if there are so many.
     pub fn name(&self, i: usize) -> Option<&'a [u8]>
         ensures { option_map (λ x. x.now) result ≡ slice_get (sheet_model self.now.bytes.now).names i }
     {
-        if i >= self.shape.names {
-            return None;
-        }
-        Some(word_there(self.bytes, name_start(self.bytes, i)))
+        self.parts.names.at(i)
     }
 }
 
 impl Machine for Sheet<'_> {
+    ghost use Rattle.layout.proofs.Meanings.{sheet_lawful};
+
     ghost model = { λ x. sheet_model x.bytes.now };
 
+    ghost lawful = { λ x. sheet_lawful x.bytes.now x.octets };
+
     fn states(&self) -> usize {
-        self.shape.states
+        self.parts.labels.len()
     }
 
     fn names(&self) -> usize {
-        self.shape.names
+        self.parts.names.len()
     }
 
     fn knows(&self, word: &[u8]) -> bool {
-        place(self.bytes, self.shape.names, word).is_some()
+        self.parts.names.has(word)
     }
 
     fn bears(&self, state: usize, word: &[u8]) -> bool {
-        if state >= self.shape.states {
-            return false;
-        }
-        match place(self.bytes, self.shape.names, word) {
-            Some(bit) => is_set(long_number(self.bytes, self.shape.labels + 4 * state), bit),
-            None => false,
+        match (self.parts.labels.get(state), self.parts.names.place(word)) {
+            (Some(entry), Some(bit)) => is_set(label(entry), bit),
+            _ => false,
         }
     }
 
     fn step(&self, from: usize, to: usize) -> Option<u16> {
-        if from >= self.shape.states || to >= self.shape.states {
-            return None;
-        }
-        seconds(self.bytes, self.shape.steps, self.shape.count, from, to)
+        let i = self
+            .parts
+            .steps
+            .binary_search_by_key(&(from, to), joined)
+            .ok()?;
+        Some(seconds(&self.parts.steps[i]))
     }
 }

@@ -1,29 +1,24 @@
-use Rattle.std.proofs.Common.{sym, refl, ◌∙◌, arith}
-use Rattle.std.proofs.lemmas.Result.{err_from_is_err_and}
-use Rattle.layout.specs.Judging.{first_fault, label_fault}
-use Rattle.layout.proofs.Faults.{first_more, first_here}
-use Rattle.layout.proofs.Faultless.{good_label}
-use Rattle.sheet.proofs.Rooms.{label_judged, label_same}
-use Rattle.sheet.proofs.Unless.{accepted, refused}
+use Rattle.std.proofs.Common.{◌≡◌, length, sym, arith}
+use Rattle.layout.specs.Fields.{u32_at, label_in}
+use Rattle.sheet.proofs.Judged.{says_all}
+use Rattle.sheet.proofs.Labels.{label_is, labels_wrong, labels_right, labels_short}
 use Rattle.sheet.proofs.survey.labels.Goals as goal
 
-pub loop-s-init : goal.loop-s-init
-unfolding first_fault
-loop-s-init c = (omega (arith, c.requires.within), refl)
+pub returns-in-Some-clause-judged : goal.returns-in-Some-clause-judged
+returns-in-Some-clause-judged c =
+    let e = c.entries-labels.ensures in
+    rw (c.at.ensures, c.place-place.ensures) (labels_wrong c.args.reader.now.bytes.now c.entries-labels.result.now c.args.reader.now.place e.entries c.requires.here c.args.names c.requires.names e.room c.args.states c.in-Some.s (omega (arith, e.count)) (sym c.in-Some.ensures))
 
-pub returns-in_err-label_entry : goal.returns-in_err-label_entry
-returns-in_err-label_entry c =
-    let bytes = c.args.bytes.now in
-    let s = c.loop-s.s in
-    let same = label_same bytes c.args.offset c.args.limit s c.requires.here c.requires.limit in
-    let p = err_from_is_err_and c.from_residual.result c.from_residual.ensures.1 in
-    let f = refused (label_judged bytes c.args.offset c.args.limit s) tt _ c.in_err-label_entry.ensures in
-    rw (p.1, p.2, first_here c.args.states s (label_fault bytes) _ (omega arith) c.loop-s.invariant.1 (sym same ∙ f))
+pub returns-then-labels-states-clause-judged : goal.returns-then-labels-states-clause-judged
+returns-then-labels-states-clause-judged c =
+    let e = c.entries-labels.ensures in
+    rw (c.cut_short.ensures, e.moved.bytes) (labels_short c.args.reader.now.bytes.now c.entries-labels.result.now c.args.reader.now.place e.entries c.requires.here c.args.names c.requires.names e.room c.args.states c.if-labels-states.true (omega (arith, e.count, c.if-labels-states.true)) (sym c.in_default.ensures))
 
-pub loop-s-preserved : goal.loop-s-preserved
-loop-s-preserved c =
-    let bytes = c.args.bytes.now in
-    let s = c.loop-s.s in
-    let same = label_same bytes c.args.offset c.args.limit s c.requires.here c.requires.limit in
-    let none = sym same ∙ (accepted (label_judged bytes c.args.offset c.args.limit s) tt _ c.in_ok-label_entry.ensures).0 in
-    (omega (arith, c.requires.here, (good_label bytes s none).room), first_more s (label_fault bytes) c.loop-s.invariant.1 none)
+pub returns-clause-judged : goal.returns-clause-judged
+returns-clause-judged c =
+    let bytes = c.args.reader.now.bytes.now in
+    let e = c.entries-labels.ensures in
+    let all : length c.entries-labels.result.now ≡ c.args.states = omega (arith, e.count, c.if-labels-states.false) in (
+      labels_right bytes c.entries-labels.result.now c.args.reader.now.place e.entries c.requires.here c.args.names c.requires.names e.room c.args.states c.if-labels-states.false (sym c.in_default.ensures),
+      says_all (λ entry. u32_at entry 0) (label_in bytes) c.entries-labels.result.now c.args.states 0 all (λ i h. label_is bytes c.entries-labels.result.now c.args.reader.now.place e.entries c.requires.here i (omega arith)),
+    )

@@ -1,29 +1,31 @@
-use Rattle.std.proofs.Common.{◌+◌, refl, arith}
+use Rattle.std.proofs.Common.{◌+◌, sym, ap, refl, ◌∙◌, arith}
 use Rattle.std.proofs.lemmas.Result.{err_from_is_err_and}
 use Rattle.layout.specs.Fields.{name_at}
 use Rattle.layout.specs.Judging.{first_fault, name_fault}
 use Rattle.layout.proofs.Faults.{first_more, first_here}
-use Rattle.layout.proofs.Faultless.{good_name}
-use Rattle.layout.proofs.Reading.{name_at_next}
-use Rattle.sheet.proofs.Unless.{accepted, refused}
+use Rattle.fault.proofs.Refusals.{accepted, refused}
 use Rattle.sheet.proofs.survey.names.Goals as goal
 
 pub loop-i-init : goal.loop-i-init
 unfolding name_at first_fault
-loop-i-init c = (refl, c.requires, refl)
+loop-i-init c = (refl, omega (arith, c.requires.here, c.args.reader.now.within), c.requires.here, refl)
 
-pub returns-in_err-offset : goal.returns-in_err-offset
-returns-in_err-offset c =
-    let bytes = c.args.bytes.now in
+pub returns-in_err-name_entry-clause-judged : goal.returns-in_err-name_entry-clause-judged
+returns-in_err-name_entry-clause-judged c =
+    let bytes = c.args.reader.now.bytes.now in
     let i = c.loop-i.i in
     let p = err_from_is_err_and c.from_residual.result c.from_residual.ensures.1 in
-    let f = refused (name_fault bytes i) (name_at bytes (i + 1)) _ c.in_err-offset.ensures in
-    rw (p.1, p.2, first_here c.args.count i (name_fault bytes) _ (omega arith) c.loop-i.invariant.2 f)
+    let f = refused (name_fault c.loop-i.reader.bytes.now i) tt _ c.in_err-name_entry.ensures.judged in
+    rw (p.1, p.2, first_here c.args.count i (name_fault bytes) _ (omega arith) c.loop-i.invariant.3 (ap (λ b. name_fault b i) (sym c.loop-i.invariant.0) ∙ f))
 
 pub loop-i-preserved : goal.loop-i-preserved
 loop-i-preserved c =
-    let bytes = c.args.bytes.now in
+    let bytes = c.args.reader.now.bytes.now in
     let i = c.loop-i.i in
-    let a = accepted (name_fault bytes i) (name_at bytes (i + 1)) _ c.in_ok-offset.ensures in
-    let room = (good_name bytes i a.0).room in
-    (a.1, omega (arith, a.1, name_at_next bytes i, room), first_more i (name_fault bytes) c.loop-i.invariant.2 a.0)
+    let same = c.loop-i.invariant.0 in
+    let a = accepted (name_fault c.loop-i.reader.bytes.now i) tt _ c.in_ok-name_entry.ensures.judged in (
+      c.in_ok-name_entry.ensures.moved.bytes ∙ same,
+      c.loop-i.invariant.1,
+      c.in_ok-name_entry.ensures.moved.place ∙ ap (λ b. name_at b (i + 1)) same,
+      first_more i (name_fault bytes) c.loop-i.invariant.3 (ap (λ b. name_fault b i) (sym same) ∙ a.0),
+    )

@@ -4,4 +4,6 @@ use Rattle.layout.specs.Judging.{first_fault, name_fault}
 use Rattle.sheet.proofs.survey.names.Given as goal
 
 abbrev pub invariant-loop-i : goal.invariant-loop-i
-invariant-loop-i l = (l.offset ≡ name_at l.bytes l.i) × (l.offset ≤ length l.bytes) × (first_fault l.i (name_fault l.bytes) ≡ None)
+invariant-loop-i l =
+    let bytes = l.initial.reader.bytes.now in
+    (l.reader.bytes.now ≡ bytes) × (8 ≤ length bytes) × (l.reader.place ≡ name_at bytes l.i) × (first_fault l.i (name_fault bytes) ≡ None)

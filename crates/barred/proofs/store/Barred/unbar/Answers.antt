@@ -1,15 +1,26 @@
-use Rattle.std.proofs.Common.{rules}
+use Rattle.std.proofs.Common.{◌<◌, set, sym, ap, ◌∙◌, subst, arith, eqb}
+use Rattle.std.specs.List.{list_any}
+use Rattle.std.proofs.lemmas.List.{length-set}
+use Rattle.fault.proofs.Refusals.{accepted}
+use Rattle.barred.specs.Bars.{Bars, Marked}
 use Rattle.barred.specs.Barring.{bars_of}
-use Rattle.barred.proofs.Kept.{sound_without}
+use Rattle.barred.proofs.Kept.{unbar_granted, sound_without}
+use Rattle.barred.proofs.Listed.{marked_without, none_left}
 use Rattle.barred.proofs.store.Barred.unbar.Goals as goal
 
-pub returns-in-None : goal.returns-in-None
-returns-in-None g c =
+pub invariant_of-self : goal.invariant_of-self
+invariant_of-self g c =
     let this = c.args.self.now in
-    let known = c.in-None.ensures in
+    let m = g.M.Machine.model this.machine in
+    let law = g.met.M.Machine.lawful this.machine in
+    let from = c.args.from in
+    let few = law.few_states in
+    let marks = this.marks in
+    let state : from < m.states = unbar_granted m (bars_of this) from c.args.to (sym (accepted _ _ _ c.in_ok-check_unbar.ensures).0) in
+    let left = c.is_left.ensures ∙ ap (λ (bars : Bars). list_any (λ p. eqb p.from from) bars) (c.deref.ensures.0 ∙ c.remove.ensures) in
     record {
-      answer = search rules;
-      bars = search rules;
-      machine = c.remove.ensures.machine;
-      sound = sound_without known.lawful (bars_of this) c.args.from c.args.to (bars_of c.remove.new.self) c.remove.ensures.bars;
+      marks = length-set this.touched from c.is_left.result ∙ marks;
+      marked = subst (Marked (set this.touched from c.is_left.result)) (sym c.remove.ensures)
+          (marked_without this.touched (bars_of this) this.marked from c.args.to c.is_left.result (omega arith) (λ none u. none_left _ from u (sym left ∙ none)));
+      sound = sound_without law (bars_of this) from c.args.to c.remove.new.bars.items c.remove.ensures this.sound;
     }

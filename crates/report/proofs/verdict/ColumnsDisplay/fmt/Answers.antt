@@ -1,10 +1,10 @@
-use Rattle.std.proofs.Common.{◌≡◌, ℕ, ◌<◌, List, [], ◌∷◌, get_or, take, sym, refl, ap, ◌∙◌, add-one, arith}
+use Rattle.std.proofs.Common.{◌≡◌, ℕ, ◌<◌, List, [], ◌∷◌, get_or, sym, refl, ap, ◌∙◌, arith}
 use lib.Utf8.{encode}
+use Rattle.std.proofs.lemmas.List.{map_more}
 use Rattle.std.proofs.lemmas.Str.Ascii.{encode_ascii}
-use Rattle.std.proofs.lemmas.List.{take_all}
 use Rattle.std.proofs.Output.{has_written_append, has_written_of_eq}
-use Rattle.report.specs.Verdicts.{column_of, columns_of}
-use Rattle.report.proofs.Columns.{columns_more, column_small}
+use Rattle.report.specs.Verdicts.{column_of}
+use Rattle.report.proofs.Columns.{column_small}
 use Rattle.report.proofs.verdict.ColumnsDisplay.fmt.Goals as goal
 
 pub loop-b-preserved : goal.loop-b-preserved
@@ -17,10 +17,5 @@ loop-b-preserved g c plain =
     let one : encode c.from.result ≡ shown ∷ [] = encode_ascii c.from.result small ∙ ap {B = List ℕ} (λ x. x ∷ []) code in
     let so_far = c.loop-b.invariant plain in
     let next = has_written_of_eq _ _ _ _ _ one (c.in_ok-write_char.ensures.writes so_far.plain refl) in
-    let more = sym (columns_more text i c.loop-b-test.true) ∙ ap {B = List ℕ} (λ k. columns_of (take k text)) (sym (add-one i)) in
+    let more = sym (map_more column_of text i 0 c.loop-b-test.true) in
     has_written_of_eq _ _ _ _ _ more (has_written_append _ _ _ _ _ _ so_far next)
-
-pub returns-clause-writes : goal.returns-clause-writes
-returns-clause-writes g c plain e =
-    let text = c.args.self.now.text.now in
-    has_written_of_eq _ _ _ _ _ (ap columns_of (take_all c.loop-b.b-index text c.loop-b-test.false)) (c.loop-b.invariant plain)

@@ -1,8 +1,9 @@
-use Rattle.std.proofs.Common.{refl, arith}
+use Rattle.std.proofs.Common.{arith}
 use Rattle.layout.proofs.Meanings.{encoding_means, nothing_means}
 use Rattle.sheet.proofs.opened.Sheet.open.Goals as goal
 
-pub returns : goal.returns
-returns c =
-    let bytes = c.args.bytes.now in
-    record { bytes = refl; means = λ d p e. encoding_means bytes d p e; otherwise = λ none. nothing_means bytes (λ i. omega (arith, c.type_inv.bytes i)) none }
+pub returns-clause-means : goal.returns-clause-means
+returns-clause-means c d p e = encoding_means c.args.bytes.now d p e
+
+pub returns-clause-otherwise : goal.returns-clause-otherwise
+returns-clause-otherwise c none = nothing_means c.args.bytes.now (λ i. omega (arith, c.type_inv.bytes i)) none

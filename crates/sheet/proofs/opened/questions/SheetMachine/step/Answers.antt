@@ -1,26 +1,23 @@
-use Rattle.std.proofs.Common.{sym, ◌∙◌, inl, inr, arith}
-use Rattle.machine.proofs.Laws.{no_step}
-use Rattle.layout.specs.Judging.{sheet_model}
-use Rattle.layout.proofs.Meanings.{sheet_lawful}
-use Rattle.sheet.proofs.Shapes.{right, steps_start, step_is, states_are}
-use Rattle.sheet.proofs.opened.questions.SheetMachine.step.Goals.{then-from-self-via-then-from-self, then-from-self-via-else-from-self+then-to-self}
+use Rattle.std.proofs.Common.{ℕ, List, Some, ap, sym, ◌∙◌, rules}
+use Rattle.std.proofs.lemmas.List.Sorted.{answers_always}
+use Rattle.layout.specs.Fields.{step_there}
+use Rattle.sheet.proofs.Meant.{model_is}
+use Rattle.sheet.proofs.Sought.{step_found, step_missed}
 use Rattle.sheet.proofs.opened.questions.SheetMachine.step.Goals as goal
 
-pub returns-then-from-self : goal.returns-then-from-self
-returns-then-from-self c =
+pub returns-in_err-i : goal.returns-in_err-i
+returns-in_err-i c =
     let x = c.args.self.now in
-    let n = states_are x.bytes.now x.shape x.found in
-    sym (no_step (sheet_model x.bytes.now) (sheet_lawful x.bytes.now x.octets) c.args.from c.args.to
-    (elim c.then-from-self.branch [
-      | then-from-self-via-then-from-self w ↦ inl (omega (arith, w.if-from-self.true))
-      | then-from-self-via-else-from-self+then-to-self w ↦ inr (omega (arith, w.if-to-self.true))
-    ]))
-
-pub seconds-requires : goal.seconds-requires
-seconds-requires c =
-    let x = c.args.self.now in
-    let start = steps_start x.bytes.now x.shape x.found c.args.from (omega arith) in
-    record { right = right x.bytes.now x.shape x.found c.args.from (omega arith); steps = start.0; count = start.1 }
+    let key : List ℕ → ℕ × ℕ = λ e. ((step_there e 0).from, (step_there e 0).to) in
+    let is = c.binary_search_by_key.ensures.position key (answers_always _ _ _ (λ f a r g called. search rules)) in
+    c.from_residual.ensures ∙ sym (ap (λ m. m.step c.args.from c.args.to) (model_is x.bytes.now)
+    ∙ step_missed x.bytes.now x.octets x.parts.steps.now (ap (λ d. d.steps) x.found) c.args.from c.args.to c.binary_search_by_key.result c.in_err-i.ensures.value is)
 
 pub returns : goal.returns
-returns c = let x = c.args.self.now in c.seconds.ensures ∙ sym (step_is x.bytes.now x.shape x.found c.args.from c.args.to (omega arith))
+returns c =
+    let x = c.args.self.now in
+    let key : List ℕ → ℕ × ℕ = λ e. ((step_there e 0).from, (step_there e 0).to) in
+    let is = c.binary_search_by_key.ensures.position key (answers_always _ _ _ (λ f a r g called. search rules)) in
+    ap Some c.seconds.ensures
+    ∙ sym (ap (λ m. m.step c.args.from c.args.to) (model_is x.bytes.now)
+    ∙ step_found x.bytes.now x.octets x.parts.steps.now (ap (λ d. d.steps) x.found) c.args.from c.args.to c.in_ok-i.i c.binary_search_by_key.result c.in_ok-i.ensures.value c.binary_search_by_key.ensures.bound is)
