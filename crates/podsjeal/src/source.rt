@@ -17,7 +17,7 @@ pub(crate) enum Source {
 }
 
 impl Source {
-    ghost use Rattle.std.specs.Prelude.{◌≡◌, Some, IfOk, IfErr};
+    ghost use Rattle.std.specs.Prelude.{◌≡◌, ⊤, Some, None, IfOk, IfErr};
     ghost use Rattle.layout.specs.Judging.{sheet_fault, sheet_model};
     ghost use Rattle.podsjeal.specs.declared.source.Source.TheVariants.{Ring, Sheet};
 
@@ -30,13 +30,14 @@ impl Source {
             Request::Ring { sectors, turn, aim } => {
                 Ok(Source::Ring(Ring::new(sectors, turn, aim)))
             }
-            Request::Sheet(path) => { Ok(Source::Sheet(read_file(rt, path)?)) }
+            Request::Sheet(path) => Ok(Source::Sheet(read_file(rt, path)?)),
         }
     }
 
     /// The machine that it is.
     fn open(&self) -> Result<Single<'_>, Fault>
         ensures machine { IfOk result (λ m. ⟦<Single<'static> as Machine>⟧.model m ≡ elim self.now [ Source.Ring r ↦ ⟦<Ring as Machine>⟧.model r | Source.Sheet v ↦ sheet_model v.items ]) }
+        ensures right { IfOk result (λ _. elim self.now [ Source.Ring r ↦ ⊤ | Source.Sheet v ↦ sheet_fault v.items ≡ None ]) }
         ensures fault { IfErr result (λ f. elim self.now [ Source.Ring r ↦ ⊥ | Source.Sheet v ↦ sheet_fault v.items ≡ Some f ]) }
     {
         match self {
