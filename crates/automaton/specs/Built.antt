@@ -1,10 +1,9 @@
 -- When a piece, with the letters read so far, is the position automaton of an expression.
-use Rattle.std.specs.Prelude.{◌≡◌, ℕ, ◌+◌, ◌<◌, ◌≤◌, true, ◌↔◌, List, Some, None, Option, map, slice_index, slice_index_or}
+use Rattle.std.specs.Prelude.{◌≡◌, ℕ, ◌+◌, ◌<◌, ◌≤◌, true, ◌↔◌, List, Some, None, Option, slice_index, slice_index_or}
 use Rattle.logic.specs.Formulas.{Formula, Regular, letter, size}
 use Rattle.logic.specs.Positions.{Positions, positions}
 use Rattle.automaton.specs.Sets.{Bit}
 use Rattle.automaton.specs.declared.Piece.{Piece}
-use Rattle.automaton.specs.declared.store.Letter.{Letter}
 use Rattle.automaton.specs.declared.store.Letters.{Letters}
 
 -- the automaton whose sets are the bits of a piece, and those of a row for each letter
@@ -12,18 +11,12 @@ abbrev pub as_positions : Piece → List ℕ → Positions
 as_positions a rows = record { null = a.nullable ≡ true; first = Bit a.first; last = Bit a.last; follow = λ p q. Bit (slice_index rows p) q }
 
 -- for each letter the set of those that can follow it
-abbrev pub rows_in : List Letter → List ℕ
-rows_in = map (λ l. l.follow)
-
 abbrev pub rows_of : Letters → List ℕ
-rows_of e = rows_in e.letters
+rows_of e = e.follow
 
 -- for each letter the part of the rule that it stands for
-abbrev pub labels_in : List Letter → List ℕ
-labels_in = map (λ l. l.part)
-
 abbrev pub labels_of : Letters → List ℕ
-labels_of e = labels_in e.letters
+labels_of e = e.parts
 
 -- a and b agree, and on what can follow a sign for the signs below n
 pub record Same (n : ℕ) (a b : Positions) : Type 0 where

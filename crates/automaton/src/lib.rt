@@ -1,6 +1,6 @@
 #![tactic(auto)]
 
-ghost use Rattle.std.specs.Prelude.{◌≡◌, ℕ, ◌+◌, ◌↔◌, List, if◌then◌else◌, Some, None, nat_le, nat_lt, slice_index, take};
+ghost use Rattle.std.specs.Prelude.{◌≡◌, ℕ, ◌+◌, ◌↔◌, List, if◌then◌else◌, Some, None, nat_le, nat_lt, slice_index};
 ghost use Rattle.machine.specs.Model.{Model};
 ghost use Rattle.logic.specs.Formulas.{Regular, size};
 ghost use Rattle.logic.specs.Formulas.Regular.{seq, alt, star};
@@ -13,7 +13,6 @@ mod set;
 mod store;
 
 use set::{link, only, union, union_if};
-use store::Letter;
 pub use store::Letters;
 
 /// A piece of an expression: which letters it can begin with and end with, letter p as bit p of a set, and whether it matches the empty interval.
@@ -31,7 +30,8 @@ impl Letters {
     {
         Letters {
             count: 0,
-            letters: [Letter { follow: 0, part: 0 }; 31],
+            follow: [0; 31],
+            parts: [0; 31],
         }
     }
 
@@ -42,12 +42,6 @@ impl Letters {
         self.count >= 31
     }
 
-    fn used(&self) -> &[Letter]
-        ensures { result.now ≡ take self.now.count self.now.letters }
-    {
-        &self.letters[..self.count]
-    }
-
     /// One letter more, that stands for this part of the rule, unless 31 are there.
     pub fn letter(&mut self, part: usize) -> Option<Piece>
         ensures { Lettered part self.old self.new result }
@@ -56,7 +50,8 @@ impl Letters {
             return None;
         }
         let p = self.count;
-        self.letters[p] = Letter { follow: 0, part };
+        self.follow[p] = 0;
+        self.parts[p] = part;
         self.count += 1;
         let here = only(p);
         Some(Piece {
@@ -72,7 +67,7 @@ impl Letters {
         ensures built { (x y : Regular) (o : ℕ) → Built x o a self.old → Built y (o + size x) b self.old → Built (seq x y) o result self.new }
         ensures kept { Relinked a.last self.old self.new }
     {
-        link(&mut self.letters, a.last, b.first);
+        link(&mut self.follow, a.last, b.first);
         let nullable = a.nullable && b.nullable;
         Piece {
             first: union_if(a.first, a.nullable, b.first),
@@ -87,7 +82,7 @@ impl Letters {
         ensures built { (x : Regular) (o : ℕ) → Built x o a self.old → Built (star x) o result self.new }
         ensures kept { Relinked a.last self.old self.new }
     {
-        link(&mut self.letters, a.last, a.first);
+        link(&mut self.follow, a.last, a.first);
         Piece {
             first: a.first,
             last: a.last,
@@ -138,7 +133,7 @@ impl Automaton {
     pub fn part(&self, p: usize) -> Option<usize>
         ensures { result ≡ (if nat_lt p self.now.letters.count then Some (slice_index (labels_of self.now.letters) p) else None) }
     {
-        self.letters.used().get(p).map(|letter| letter.part)
+        self.letters.parts[..self.letters.count].get(p).copied()
     }
 
     /// The letters that a word can begin with.
@@ -160,7 +155,10 @@ impl Automaton {
         ensures { result ≡ (if nat_lt p self.now.letters.count then slice_index (rows_of self.now.letters) p else 0) }
     {
         // 0 and no Option: the empty set, since nothing follows a letter that is not there.
-        self.letters.used().get(p).map_or(0, |letter| letter.follow)
+        self.letters.follow[..self.letters.count]
+            .get(p)
+            .copied()
+            .unwrap_or(0)
     }
 
     /// Whether the empty word is one.

@@ -1,8 +1,5 @@
 ghost use Rattle.std.specs.Prelude.{◌≡◌, ℕ, ◌<◌, ◌≤◌, true, ◌⊎◌, ◌↔◌, length};
 ghost use Rattle.automaton.specs.Sets.{Bit, Linked};
-ghost use Rattle.automaton.specs.Built.{rows_in, labels_in};
-
-use crate::store::Letter;
 
 // The sets stay numbers with functions beside them: each of them comes from a public field or answer and goes to one, so a
 // type of its own would be wrapped and unwrapped at every call.
@@ -36,15 +33,14 @@ pub(crate) fn union_if(a: u32, more: bool, b: u32) -> u32
     if more { union(a, b) } else { a }
 }
 
-/// Lets the letters of one set follow those of another.
-pub(crate) fn link(letters: &mut [Letter], from: u32, to: u32)
-    requires { length letters.old ≤ 32 }
-    ensures rows { Linked (rows_in letters.new) (rows_in letters.old) (length letters.old) from to }
-    ensures labels { labels_in letters.new ≡ labels_in letters.old }
+/// Puts the letters of one set into the rows of those of another.
+pub(crate) fn link(rows: &mut [u32], from: u32, to: u32)
+    requires { length rows.old ≤ 32 }
+    ensures { Linked rows.new rows.old (length rows.old) from to }
 {
-    for (p, letter) in letters.iter_mut().enumerate() {
+    for (p, row) in rows.iter_mut().enumerate() {
         if has(from, p) {
-            letter.follow = union(letter.follow, to);
+            *row = union(*row, to);
         }
     }
 }

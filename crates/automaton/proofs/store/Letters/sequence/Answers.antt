@@ -1,5 +1,4 @@
 use Rattle.std.proofs.Common.{◌≡◌, ◌&&◌, refl, rules}
-use Rattle.automaton.specs.Built.{rows_in, rows_of}
 use Rattle.automaton.proofs.Pieces.{linked_joined, seq_built}
 use Rattle.automaton.proofs.store.Letters.sequence.Goals as goal
 
@@ -9,9 +8,9 @@ returns c =
     let b = c.args.b in
     let e = c.args.self.now in
     let null : c.if-a.nullable ≡ (a.nullable && b.nullable) = search rules in
-    let value = linked_joined a b _ (rows_in c.link.new.letters) (rows_of e) _ e.long c.link.ensures.rows null c.union_if.ensures c.union_if-2.ensures in
+    let value = linked_joined a b _ c.link.new.rows e.follow _ e.rows c.link.ensures null c.union_if.ensures c.union_if-2.ensures in
     record {
       value = value;
       built = λ x y o. seq_built x y o a b _ e _ refl value;
-      kept = record { count = refl; parts = c.link.ensures.labels; rows = c.link.ensures.rows.kept };
+      kept = record { count = refl; parts = refl; rows = c.link.ensures.kept };
     }
