@@ -12,7 +12,7 @@ use Rattle.machine.specs.Model.{among}
 use Rattle.layout.specs.Descriptions.{Step, no_step, name_of, label_of, step_of, Precedes, Proper}
 use Rattle.layout.specs.Encoding.{two_bytes, four_bytes, name_entry, step_entry, encode}
 use Rattle.layout.specs.Fields.{byte_at, state_count, name_count, name_at, word_at, name_in, labels_at, label_at, label_in, step_count_at, step_count, step_at, step_in, sheet_end, described}
-use Rattle.layout.specs.Judging.{repeats, in_order, some_leave}
+use Rattle.layout.specs.Judging.{precedes, repeats, in_order, some_leave}
 use Rattle.layout.proofs.Numbers.{Bytes, u16_below, two_bytes_at, four_bytes_at}
 use Rattle.layout.proofs.Entries.{entries_from}
 use Rattle.layout.proofs.Faultless.{Faultless, GoodName, GoodLabel, GoodStep}
@@ -128,6 +128,9 @@ apart : (bytes : List ℕ) (i j : ℕ) → i < j → repeats bytes j ≡ false �
 apart bytes i j h fresh e =
     let again = among_at (map (name_in bytes) (range_with_len 0 j)) i (name_in bytes j) in
     grind (arith, length-map-range_with_len (name_in bytes) 0 j, get_or-map-range_with_len (name_in bytes) 0 j i i [] h (zero-add i))
+
+pub precedes_so : (e f : Step) → precedes e f ≡ true → Precedes e f
+precedes_so e f h = search rules
 
 pub in_order_next : (bytes : List ℕ) (i : ℕ) → in_order bytes (i + 1) ≡ true → Precedes (step_in bytes i) (step_in bytes (i + 1))
 in_order_next bytes i h = search rules
