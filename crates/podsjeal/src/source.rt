@@ -20,12 +20,12 @@ impl Source {
     ghost use Rattle.std.specs.Prelude.{◌≡◌, ⊤, Some, None, IfOk, IfErr};
     ghost use Rattle.layout.specs.Judging.{sheet_fault, sheet_model};
     ghost use Rattle.podsjeal.specs.declared.source.Source.TheVariants.{Ring, Sheet};
+    ghost use Rattle.podsjeal.specs.Loaded.{LoadedFor};
 
     /// Reads what a word names.
-    pub(crate) fn load<'w>(
-        rt: &HostRuntime,
-        request: Request<'w>,
-    ) -> Result<Source, Complaint<'w>> {
+    pub(crate) fn load<'w>(rt: &HostRuntime, request: Request<'w>) -> Result<Source, Complaint<'w>>
+        ensures { IfOk result (LoadedFor request.entry) }
+    {
         match request {
             Request::Ring { sectors, turn, aim } => {
                 Ok(Source::Ring(Ring::new(sectors, turn, aim)))
