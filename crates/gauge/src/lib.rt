@@ -74,7 +74,9 @@ pub extern "C" fn gauge_rule(text: &[u8]) -> u8
     ensures { Numbered (among (ring_model 12 5 3).names) text.now result }
 {
     // 0 stands for a rule: C has no Option.
-    rule::read(text, &Ring::new(12, 5, 3))
-        .err()
-        .map_or(0, |fault| fault.reason.number())
+    // A match, which leaves the rule where it is: `err` would move it, and it is large.
+    match rule::read(text, &Ring::new(12, 5, 3)) {
+        Ok(_) => 0,
+        Err(fault) => fault.reason.number(),
+    }
 }

@@ -20,7 +20,11 @@ fn judge<M: Machine, W: Write>(
 ) -> io::Result<bool>
     ensures { IfOk result (λ taken. IsTrue taken ↔ IsRule (among (M.model machine.now).names) text.now) }
 {
-    let outcome = rule::read(text, machine).map(|_| ());
+    // A match, which leaves the rule where it is: `map` would move it, and it is large.
+    let outcome = match rule::read(text, machine) {
+        Ok(_) => Ok(()),
+        Err(fault) => Err(fault),
+    };
     let verdict = Verdict {
         number,
         text,
@@ -40,6 +44,8 @@ fn judge_lines<M: Machine, W: Write>(out: &mut W, machine: &M, bytes: &[u8]) -> 
 }
 
 /// Says of each line of a file whether it is a rule for the machine.
+// Not inlined: a rule is large, and would take its room on the stack where none is read, too.
+#[inline(never)]
 pub(crate) fn judge_file<'w, M: Machine>(
     rt: &HostRuntime,
     machine: &M,

@@ -5,5 +5,4 @@ mod Openings
 mod Operands
 mod Expressions
 mod Letters
-mod Order
 mod Wholes

@@ -1,4 +1,4 @@
-ghost use Rattle.std.specs.Prelude.{◌≡◌, ◌-◌, ◌<◌, length};
+ghost use Rattle.std.specs.Prelude.{◌≡◌, ◌-◌, ◌<◌, ◌≤◌, length};
 ghost use Rattle.logic.specs.Formulas.{Formula};
 ghost use Rattle.rule.specs.Trees.{Stands};
 
@@ -10,6 +10,8 @@ use arrayvec::ArrayVec;
 pub struct Rule {
     pub(crate) text: ArrayVec<u8, 255>,
     pub(crate) parts: ArrayVec<Part, 64>,
+    ghost short: { length text.items ≤ 255 },
+    ghost few: { length parts.items ≤ 64 },
     ghost some: { 0 < length parts.items },
     ghost sound: { ∥ ((f : Formula) × Stands text.items parts.items (length parts.items - 1) f) ∥₁ },
 }

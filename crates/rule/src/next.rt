@@ -38,11 +38,11 @@ impl<'a> Draft<'a> {
     pub(crate) fn unexpected(&self) -> Fault
         ensures { Unexpected self.now result }
     {
-        let place = self.place();
+        let here = self.place();
         match self.ahead() {
-            Some(_) => Reason::NotDerivable.at(place),
-            None if self.is_over() => Reason::NotDerivable.at(place),
-            None => Reason::StrayByte.at(place),
+            Some(_) => Reason::NotDerivable.at(here),
+            None if self.is_over() => Reason::NotDerivable.at(here),
+            None => Reason::StrayByte.at(here),
         }
     }
 

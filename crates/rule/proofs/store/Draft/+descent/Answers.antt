@@ -1,4 +1,4 @@
-use Rattle.std.proofs.Common.{◌≡◌, ◌-◌, ◌≤◌, [], ◌∷◌, length, refl, ap, subst, arith}
+use Rattle.std.proofs.Common.{◌≡◌, ◌-◌, ◌≤◌, [], ◌∷◌, length, refl, ap, ◌∙◌, subst, arith}
 use Rattle.std.proofs.lemmas.Result.{err_from_is_err_and, MatchResult-weaker}
 use borrow.Author.Tests.{true-leb, false-leb}
 use Rattle.fault.specs.declared.Reason.TheVariants.{TooManyLetters}
@@ -134,7 +134,7 @@ base-returns-in_err-count_part-in-Leaf t c =
 pub base-returns-then-is_full : goal.base-returns-then-is_full
 base-returns-then-is_full t c =
     let o = opens_as c.in_ok-opening.ensures c.in-Curly.is in
-    curly_over o c.args.letters.now (true-leb 31 c.args.letters.now.count c.if-is_full.ensures) _ c.at.ensures
+    curly_over o c.args.letters.now (true-leb 31 c.args.letters.now.count c.if-is_full.ensures) _ (c.at.ensures ∙ ap (at TooManyLetters) (omega arith))
 
 pub base-formula-requires : goal.base-formula-requires
 base-formula-requires t c =
