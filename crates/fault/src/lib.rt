@@ -56,7 +56,7 @@ impl Reason {
     pub fn number(self) -> u8
         ensures { result ≡ number_of self }
     {
-        self as u8
+        self as u8 // each variant carries its published number
     }
 
     /// The layer that refuses.
@@ -121,10 +121,20 @@ impl fmt::Display for Reason {
 }
 
 /// A refusal: the place that it speaks of, and its reason. Of two, the less is the one to name first.
-#[derive(Clone, Copy, Debug, PartialEq, Eq, PartialOrd, Ord)]
+#[derive(Clone, Copy, PartialEq, Eq, PartialOrd, Ord)]
 pub struct Fault {
     pub place: usize,
     pub reason: Reason,
+}
+
+// By hand, since the fields stand in the order of naming, and the text puts the reason first.
+impl fmt::Debug for Fault {
+    fn fmt<W: fmt::Write>(&self, f: &mut fmt::Formatter<W>) -> fmt::Result {
+        f.debug_struct("Fault")
+            .field("reason", &self.reason)
+            .field("place", &self.place)
+            .finish()
+    }
 }
 
 impl fmt::Display for Fault {
