@@ -1,5 +1,13 @@
 ghost use Rattle.std.specs.Prelude.{◌≡◌, ◌||◌};
+ghost use Rattle.std.specs.Str.{bytes_eq};
 ghost use Rattle.machine.specs.Names.{is_letter, continues, all_continue, is_word, is_connective, is_operator, is_name};
+
+/// Whether two words are the same.
+pub fn same_word(left: &[u8], right: &[u8]) -> bool
+    ensures { result ≡ bytes_eq left.now right.now }
+{
+    left == right
+}
 
 /// Whether a word can start with this byte.
 pub fn is_letter(b: u8) -> bool
