@@ -1,5 +1,5 @@
 -- No call takes a state's last open step.
-use Rattle.std.proofs.Common.{Err, ◌≡◌, ℕ, ◌<◌, Bool, true, false, cond, not, ◌&&◌, ◌||◌, eqb, ◌⊎◌, [], ◌∷◌, ◌++◌, is_some, Some, None, Option, sym, refl, inl, inr, arith, rules}
+use Rattle.std.proofs.Common.{Err, ◌≡◌, ℕ, ◌<◌, Bool, true, false, cond, not, ◌&&◌, ◌||◌, eqb, ◌⊎◌, [], ◌∷◌, ◌++◌, length, is_some, Some, None, Option, sym, refl, inl, inr, arith, rules}
 use Rattle.std.proofs.lemmas.Bool.{and_from, and_left, and_parts, and_right, cases_eq, cases_lt, eqb-false, false≢true, ne_eqb, not_from_false, not-true}
 use Rattle.fault.specs.declared.Fault.{Fault}
 use Rattle.fault.specs.Refusals.{unless}
@@ -74,7 +74,7 @@ keeps_without m bars keeps s t x h =
     let w = open_where m bars x (keeps x h) in
     open_from m (without bars s t) x w.0 w.1 (open_without m bars s t x w.0 w.2)
 
-pub bar_granted : (m : Model) (bars : Bars) (s t : ℕ) → None ≡ bar_fault m bars s t → (s < m.states) × (has_other m bars s t ≡ true)
+pub bar_granted : (m : Model) (bars : Bars) (s t : ℕ) → None ≡ bar_fault m bars s t → (s < m.states) × (has_other m bars s t ≡ true) × (length bars < 64)
 bar_granted m bars s t e = search rules
 
 pub unbar_granted : (m : Model) (bars : Bars) (s t : ℕ) → None ≡ unbar_fault m bars s t → s < m.states
@@ -87,6 +87,6 @@ pub sound_without : {m : Model} → Lawful m → (bars : Bars) (s t : ℕ) (rest
 sound_without {m} law bars s t rest is sound = rw is (sound_from_keeps law (keeps_without m bars sound.keeps s t))
 
 -- what a check's answer says of the fault
-pub refused_keeps : (fault : Option Fault) (f : Fault) (new old : Bars) → Err f ≡ unless fault (tt {0}) → old ≡ after fault new old
-refused_keeps None f new old e = absurd (cc)
-refused_keeps (Some f') f new old e = refl
+pub refused_keeps : {A : Type 0} (fault : Option Fault) (x : A) (f : Fault) (new old : Bars) → Err f ≡ unless fault x → old ≡ after fault new old
+refused_keeps None x f new old e = absurd (cc)
+refused_keeps (Some f') x f new old e = refl

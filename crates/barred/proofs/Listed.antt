@@ -1,5 +1,5 @@
 -- Which steps are barred after a bar more, and after the bars of a step are taken out; and which states are then marked.
-use Rattle.std.proofs.Common.{not, ◌≡◌, ℕ, ◌<◌, Bool, true, false, cond, ◌||◌, eqb, List, [], ◌∷◌, ◌++◌, length, set, sym, refl, ap, ◌∙◌, inl, inr}
+use Rattle.std.proofs.Common.{not, ◌≡◌, ℕ, ◌<◌, Bool, true, false, cond, ◌||◌, eqb, List, [], ◌∷◌, ◌++◌, length, get_or, set, sym, refl, ap, ◌∙◌, inl, inr}
 use mathlib.Core.Bool.{or-false}
 use Rattle.std.proofs.lemmas.List.{get_or-set_same, get_or-set_other}
 use Rattle.std.specs.List.{list_any}
@@ -28,6 +28,9 @@ none_left [] s t e = refl
 none_left (p ∷ bars) s t e =
     let parts = or_parts (eqb p.from s) (list_any (λ q. eqb q.from s) bars) e in
     or_from (is_step p s t) (is_barred bars s t) (and_left (eqb p.from s) (eqb p.to t) parts.0) (none_left bars s t parts.1)
+
+pub unmarked : (touched : List Bool) (bars : Bars) → Marked touched bars → (s t : ℕ) → get_or touched s false ≡ false → is_barred bars s t ≡ false
+unmarked touched bars marked s t e = elim (cases_Bool (is_barred bars s t)) [ inl y ↦ absurd (both_ways (get_or touched s false) e (marked s t y)) | inr n ↦ n ]
 
 pub marked_push : (touched : List Bool) (bars : Bars) → Marked touched bars → (p : Step) → p.from < length touched
     → Marked (set touched p.from true) (bars ++ (p ∷ []))

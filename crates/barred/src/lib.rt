@@ -2,7 +2,7 @@
 
 ghost use Rattle.std.specs.Prelude.{◌≡◌, []};
 ghost use Rattle.fault.specs.Refusals.{unless};
-ghost use Rattle.barred.specs.Bars.{is_barred, is_open, has_other, barred_model};
+ghost use Rattle.barred.specs.Bars.{step_of, is_barred, is_open, has_other, barred_model};
 ghost use Rattle.barred.specs.Barring.{bars_of, bar_fault, unbar_fault, bar_after, unbar_after};
 
 mod steps;
@@ -33,8 +33,7 @@ impl<M: Machine> Barred<M> {
         ensures bars { bars_of self.new ≡ bar_after (M.model self.old.machine) (bars_of self.old) from to }
         ensures machine { self.new.machine ≡ self.old.machine }
     {
-        let step = Step { from, to };
-        self.check_bar(step)?;
+        let step = self.check_bar(from, to)?;
         self.touched[from] = true;
         self.bars.push(step);
         Ok(())
@@ -46,61 +45,60 @@ impl<M: Machine> Barred<M> {
         ensures bars { bars_of self.new ≡ unbar_after (M.model self.old.machine) (bars_of self.old) from to }
         ensures machine { self.new.machine ≡ self.old.machine }
     {
-        let step = Step { from, to };
-        self.check_unbar(step)?;
+        let step = self.check_unbar(from, to)?;
         remove(&mut self.bars, step);
         self.touched[from] = is_left(&self.bars, from);
         Ok(())
     }
 
-    /// Refuses a step that cannot be barred.
-    fn check_bar(&self, step: Step) -> Result<(), Fault>
-        ensures { result ≡ unless (bar_fault (M.model self.now.machine) (bars_of self.now) step.from step.to) tt }
+    /// The step between two states, unless it cannot be barred.
+    fn check_bar(&self, from: usize, to: usize) -> Result<Step, Fault>
+        ensures { result ≡ unless (bar_fault (M.model self.now.machine) (bars_of self.now) from to) (step_of from to) }
     {
-        step.check_ends(self.machine.states())?;
-        if !self.is_open(step) {
-            return Err(Reason::NotThatStep.at(step.from));
+        let step = Step::new(from, to, self.machine.states())?;
+        if !self.is_open(from, to) {
+            return Err(Reason::NotThatStep.at(from));
         }
-        if !self.has_other(step) {
-            return Err(Reason::OnlyWayOut.at(step.from));
+        if !self.has_other(from, to) {
+            return Err(Reason::OnlyWayOut.at(from));
         }
         if self.bars.is_full() {
             return Err(Reason::BarsUsedUp.at(64));
         }
-        Ok(())
+        Ok(step)
     }
 
-    /// Refuses a step that cannot be given back.
-    fn check_unbar(&self, step: Step) -> Result<(), Fault>
-        ensures { result ≡ unless (unbar_fault (M.model self.now.machine) (bars_of self.now) step.from step.to) tt }
+    /// The step between two states, unless it cannot be given back.
+    fn check_unbar(&self, from: usize, to: usize) -> Result<Step, Fault>
+        ensures { result ≡ unless (unbar_fault (M.model self.now.machine) (bars_of self.now) from to) (step_of from to) }
     {
-        step.check_ends(self.machine.states())?;
-        if !self.is_barred(step) {
-            return Err(Reason::NotThatStep.at(step.from));
+        let step = Step::new(from, to, self.machine.states())?;
+        if !self.is_barred(from, to) {
+            return Err(Reason::NotThatStep.at(from));
         }
-        Ok(())
+        Ok(step)
     }
 
     /// Whether the step is barred; where no bar leaves a state, this is known without a look at the bars.
-    fn is_barred(&self, step: Step) -> bool
-        ensures { result ≡ is_barred (bars_of self.now) step.from step.to }
+    fn is_barred(&self, from: usize, to: usize) -> bool
+        ensures { result ≡ is_barred (bars_of self.now) from to }
     {
-        self.touched.get(step.from).is_some_and(|touched| *touched) && self.bars.contains(&step)
+        self.touched.get(from).is_some_and(|touched| *touched)
+            && self.bars.iter().any(|bar| bar.joins(from, to))
     }
 
     /// Whether the machine has the step, and it is not barred.
-    fn is_open(&self, step: Step) -> bool
-        ensures { result ≡ is_open (M.model self.now.machine) (bars_of self.now) step.from step.to }
+    fn is_open(&self, from: usize, to: usize) -> bool
+        ensures { result ≡ is_open (M.model self.now.machine) (bars_of self.now) from to }
     {
-        self.machine.step(step.from, step.to).is_some() && !self.is_barred(step)
+        self.machine.step(from, to).is_some() && !self.is_barred(from, to)
     }
 
     /// Whether another step out of the same state is open.
-    fn has_other(&self, step: Step) -> bool
-        ensures { result ≡ has_other (M.model self.now.machine) (bars_of self.now) step.from step.to }
+    fn has_other(&self, from: usize, to: usize) -> bool
+        ensures { result ≡ has_other (M.model self.now.machine) (bars_of self.now) from to }
     {
-        (0..self.machine.states()).any(|other| other != step.to
-            && self.is_open(Step { to: other, ..step }))
+        (0..self.machine.states()).any(|other| other != to && self.is_open(from, other))
     }
 }
 
@@ -129,7 +127,7 @@ impl<M: Machine> Machine for Barred<M> {
     }
 
     fn step(&self, from: usize, to: usize) -> Option<u16> {
-        if self.is_barred(Step { from, to }) {
+        if self.is_barred(from, to) {
             None
         } else {
             self.machine.step(from, to)

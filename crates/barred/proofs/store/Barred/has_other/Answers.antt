@@ -10,6 +10,6 @@ pub returns : goal.returns
 unfolding has_other
 returns g c =
     let m = g.M.Machine.model c.args.self.now.machine in
-    let other_open : ℕ → Bool = λ u. is_open m (bars_of c.args.self.now) c.args.step.from u && not (eqb u c.args.step.to) in
+    let other_open : ℕ → Bool = λ u. is_open m (bars_of c.args.self.now) c.args.from u && not (eqb u c.args.to) in
     any_from_yields_List other_open _ _ _ c.any.ensures.ran (YieldsList-from_range 0 c.states.result m.states refl (omega (arith, c.states.ensures))) (λ x b q k. search rules)
     ∙ some_below_any m.states other_open
