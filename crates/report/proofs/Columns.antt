@@ -1,9 +1,7 @@
--- The bytes that are shown for a text, and the gap below it.
-use Rattle.std.proofs.Common.{◌≡◌, ℕ, zero, suc, ◌<◌, Bool, true, false, cond, ◌&&◌, leb, [], codes, ◌^◌, ◌-◌, refl, arith}
+-- The bytes that are shown for a text, and a gap with one column more.
+use Rattle.std.proofs.Common.{◌≡◌, ℕ, zero, suc, ◌<◌, Bool, true, false, cond, ◌&&◌, leb, List, ◌++◌, sym, refl, ap, ◌∙◌, append_assoc, append-nil, arith}
 use Rattle.std.specs.List.{repeat}
-use Rattle.std.proofs.lemmas.Bool.{leb-true, ne_eqb}
-use Rattle.std.specs.Fmt.{styled_text, format_spec, padded, take_chars, char_count}
-use lib.Utf8.{encode}
+use Rattle.std.proofs.lemmas.Bool.{leb-true}
 use Rattle.report.specs.Verdicts.{column_of}
 
 pub column_small : (b : ℕ) → column_of b < 128
@@ -14,10 +12,6 @@ column_small b = go (leb 32 b) (leb b 126) refl
     go true false e = omega arith
     go true true e = omega (arith, leb-true b 126 e)
 
--- nothing, filled up to a width
-pub filled_up : (n : ℕ) → styled_text (format_spec 32 0 0 n (2 ^ 64 - 1)) [] ≡ repeat n (codes " ")
-unfolding padded take_chars char_count encode
-filled_up zero = refl
-filled_up (suc n) =
-    let all : suc n - 0 - 0 ≡ suc n = omega arith in
-    rw (ne_eqb (suc n) 0 (omega arith), all)
+pub repeated_more : (n : ℕ) (xs : List ℕ) → repeat (suc n) xs ≡ repeat n xs ++ xs
+repeated_more zero xs = append-nil xs
+repeated_more (suc n) xs = ap {B = List ℕ} (λ r. xs ++ r) (repeated_more n xs) ∙ sym (append_assoc xs (repeat n xs) xs)

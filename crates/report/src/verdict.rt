@@ -1,4 +1,5 @@
-ghost use Rattle.std.specs.Prelude.{◌≡◌, Some};
+ghost use Rattle.std.specs.Prelude.{◌≡◌, Some, codes};
+ghost use Rattle.std.specs.List.{repeat};
 ghost use Rattle.report.specs.Verdicts.{column_of, columns_of, verdict_of};
 
 use fault::Fault;
@@ -31,6 +32,24 @@ impl fmt::Display for Columns<'_> {
     }
 }
 
+/// The blanks before the mark.
+// No width in a format: each blank is written by itself, so that a writer with little room gets all that fits.
+#[derive(Clone, Copy)]
+struct Gap {
+    width: usize,
+}
+
+impl fmt::Display for Gap {
+    ghost output = { λ g. Some (repeat g.width (codes " ")) };
+
+    fn fmt<W: fmt::Write>(&self, f: &mut fmt::Formatter<W>) -> fmt::Result {
+        for _ in 0..self.width {
+            f.write_str(" ")?;
+        }
+        Ok(())
+    }
+}
+
 /// What is said of a line of rules: that it is one, or its fault, its text, and a mark below the fault's place.
 #[derive(Clone, Copy, Debug)]
 pub struct Verdict<'a> {
@@ -48,9 +67,8 @@ impl fmt::Display for Verdict<'_> {
             Ok(()) => write!(f, "{number}: ok"),
             Err(fault) => {
                 let columns = Columns { text: self.text };
-                // The empty text, filled up with blanks to this width, is the gap before the mark.
-                let place = fault.place;
-                write!(f, "{number}: {fault}\n    {columns}\n    {:place$}^", "")
+                let gap = Gap { width: fault.place };
+                write!(f, "{number}: {fault}\n    {columns}\n    {gap}^")
             }
         }
     }
