@@ -1,9 +1,9 @@
-mod Chunks
-mod Judged
-mod Labels
-mod Meant
-mod Sought
-mod Steps
-mod Surveys
-mod Tails
-mod Words
+pub mod Chunks
+pub mod Judged
+pub mod Labels
+pub mod Meant
+pub mod Sought
+pub mod Steps
+pub mod Surveys
+pub mod Tails
+pub mod Words

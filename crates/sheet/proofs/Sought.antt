@@ -1,13 +1,14 @@
 -- Looking for a step among those that bytes describe.
-use Rattle.std.proofs.Common.{◌≡◌, ℕ, ◌<◌, ◌≤◌, ◌⊎◌, List, [], map, length, get_or, Some, None, Option, Ok, Err, Result, sym, refl, ap, ◌∙◌, subst, inl, inr, arith}
+use Rattle.std.proofs.Common.{◌≡◌, ℕ, ◌+◌, ◌<◌, ◌≤◌, ◌⊎◌, List, [], map, length, get_or, Some, None, Option, Ok, Err, Result, sym, refl, ap, ◌∙◌, subst, inl, inr, arith}
 use Rattle.std.specs.Cmp.{nat_cmp_is}
+use Rattle.std.specs.List.{AllWithin}
 use Rattle.std.specs.List.Sorted.{IsBinarySearchResult, IsSearchInRange, IsNonDecreasingBy}
-use Rattle.std.specs.Ordering.{nat_cmp, ordering_then, ordering_index}
+use Rattle.std.specs.Ordering.{ordering_index}
 use Rattle.std.specs.declared.cmp.Ordering.{Ordering}
 use Rattle.std.specs.declared.cmp.Ordering.TheVariants.{Less, Equal, Greater}
 use Rattle.std.specs.Result.{result_ok}
 use Rattle.std.proofs.lemmas.Bool.{cases_lt, cases_order}
-use Rattle.std.proofs.lemmas.List.{get_or-map, length-map}
+use Rattle.std.proofs.lemmas.List.{get_or_default, get_or-map, length-map}
 use Rattle.fault.specs.declared.Fault.{Fault}
 use Rattle.layout.specs.Descriptions.{Step, no_step, step_of, Precedes, seconds_of}
 use Rattle.layout.specs.Fields.{step_there, described}
@@ -16,14 +17,7 @@ use Rattle.layout.proofs.Numbers.{Bytes}
 use Rattle.layout.proofs.Faultless.{faultless}
 use Rattle.layout.proofs.Lookups.{ascends, precedes_trans, seconds_at, seconds_none}
 use Rattle.layout.proofs.Reading.{proper}
-use Rattle.sheet.specs.Sheets.{described_unless, found_in}
-
--- how a step compares with the states that are sought
-abbrev pub compared : Step → ℕ → ℕ → Ordering
-compared e s t = ordering_then (nat_cmp e.from s) (nat_cmp e.to t)
-
-abbrev sought : ℕ → ℕ → Step
-sought s t = record { from = s; to = t; seconds = 0 }
+use Rattle.sheet.specs.Sheets.{described_unless, found_in, sought, compared}
 
 before : (e : Step) (s t : ℕ) → Precedes e (sought s t) → compared e s t ≡ Less
 before e s t (inl p) = rw (sym (nat_cmp_is e.from s Less p))
@@ -61,6 +55,30 @@ equal_here e s t q = elim (three_ways e s t) [
   | inr (inr p) ↦ absurd (omega (arith, ap ordering_index (sym (behind e s t p) ∙ q)))
 ]
 
+-- entries that rise towards the states that are sought
+abbrev pub Rises : List (List ℕ) → ℕ → ℕ → Type 0
+Rises entries s t = IsNonDecreasingBy (λ e. ordering_index (compared (step_there e 0) s t)) entries
+
+least : (o : Ordering) → ordering_index o ≤ ordering_index Less → o ≡ Less
+least Less h = refl
+least Equal h = absurd (omega arith)
+least Greater h = absurd (omega arith)
+
+most : (o : Ordering) → ordering_index Greater ≤ ordering_index o → o ≡ Greater
+most Less h = absurd (omega arith)
+most Equal h = absurd (omega arith)
+most Greater h = refl
+
+pub below_more : (entries : List (List ℕ)) (s t m : ℕ) → m < length entries → compared (step_there (get_or entries m []) 0) s t ≡ Less → Rises entries s t → AllWithin (λ e. compared (step_there e 0) s t ≡ Less) entries 0 (m + 1)
+below_more entries s t m h less rises k d low l =
+    let last = ap (λ e. ordering_index (compared (step_there e 0) s t)) (get_or_default entries m d [] h) ∙ ap ordering_index less in
+    least (compared (step_there (get_or entries k d) 0) s t) (omega (arith, rises k m d (omega arith) h, last))
+
+pub above_more : (entries : List (List ℕ)) (s t m : ℕ) → m < length entries → compared (step_there (get_or entries m []) 0) s t ≡ Greater → Rises entries s t → AllWithin (λ e. compared (step_there e 0) s t ≡ Greater) entries m (length entries)
+above_more entries s t m h greater rises k d low l =
+    let first = ap (λ e. ordering_index (compared (step_there e 0) s t)) (get_or_default entries m d [] h) ∙ ap ordering_index greater in
+    most (compared (step_there (get_or entries k d) 0) s t) (omega (arith, rises m k d low l, first))
+
 -- entries that say the steps which bytes describe
 module _ (bytes : List ℕ) (ok : Bytes bytes) (entries : List (List ℕ)) (says : map (λ e. step_there e 0) entries ≡ (found_in bytes).steps) where
   abbrev entry : ℕ → Step
@@ -86,7 +104,7 @@ module _ (bytes : List ℕ) (ok : Bytes bytes) (entries : List (List ℕ)) (says
       go None e = seconds_at (described bytes) (proper bytes ok (faultless bytes e))
       go (Some f) e = λ i s t h. absurd (omega arith)
 
-  rise : (s t : ℕ) → IsNonDecreasingBy (λ e. ordering_index (compared (step_there e 0) s t)) entries
+  rise : (s t : ℕ) → Rises entries s t
   rise s t i j d h l = elim (cases_lt i j) [
     | inl b ↦
         let ahead = subst (λ (x : Step). Precedes x (step_of (found_in bytes) j)) (said i d (omega arith)) (found_ascends i j b (omega (arith, all_said))) in

@@ -8,7 +8,7 @@ use Rattle.layout.specs.Judging.{◌▹◌, first_fault, header_fault, name_faul
 use Rattle.layout.proofs.Faults.{some_then, none_then}
 
 module _ (bytes : List ℕ) where
-  sheet_header : (f : Fault) → header_fault bytes ≡ Some f → sheet_fault bytes ≡ Some f
+  pub sheet_header : (f : Fault) → header_fault bytes ≡ Some f → sheet_fault bytes ≡ Some f
   unfolding sheet_fault
   sheet_header f e = some_then (header_fault bytes) _ f e
 
@@ -16,16 +16,16 @@ module _ (bytes : List ℕ) where
   unfolding sheet_fault
   names_from e = none_then (header_fault bytes) _ e
 
-  sheet_names : (f : Fault) → header_fault bytes ≡ None → first_fault (name_count bytes) (name_fault bytes) ≡ Some f → sheet_fault bytes ≡ Some f
+  pub sheet_names : (f : Fault) → header_fault bytes ≡ None → first_fault (name_count bytes) (name_fault bytes) ≡ Some f → sheet_fault bytes ≡ Some f
   sheet_names f e n = names_from e ∙ some_then (first_fault (name_count bytes) (name_fault bytes)) _ f n
 
   labels_from : header_fault bytes ≡ None → first_fault (name_count bytes) (name_fault bytes) ≡ None → sheet_fault bytes ≡ (first_fault (state_count bytes) (label_fault bytes) ▹ tail_fault bytes)
   labels_from e n = names_from e ∙ none_then (first_fault (name_count bytes) (name_fault bytes)) _ n
 
-  sheet_labels : (f : Fault) → header_fault bytes ≡ None → first_fault (name_count bytes) (name_fault bytes) ≡ None → first_fault (state_count bytes) (label_fault bytes) ≡ Some f → sheet_fault bytes ≡ Some f
+  pub sheet_labels : (f : Fault) → header_fault bytes ≡ None → first_fault (name_count bytes) (name_fault bytes) ≡ None → first_fault (state_count bytes) (label_fault bytes) ≡ Some f → sheet_fault bytes ≡ Some f
   sheet_labels f e n l = labels_from e n ∙ some_then (first_fault (state_count bytes) (label_fault bytes)) _ f l
 
-  sheet_tail : header_fault bytes ≡ None → first_fault (name_count bytes) (name_fault bytes) ≡ None → first_fault (state_count bytes) (label_fault bytes) ≡ None → sheet_fault bytes ≡ tail_fault bytes
+  pub sheet_tail : header_fault bytes ≡ None → first_fault (name_count bytes) (name_fault bytes) ≡ None → first_fault (state_count bytes) (label_fault bytes) ≡ None → sheet_fault bytes ≡ tail_fault bytes
   sheet_tail e n l = labels_from e n ∙ none_then (first_fault (state_count bytes) (label_fault bytes)) _ l
 
 pub first_same : (judge : List ℕ → ℕ → Option Fault) (bytes other : List ℕ) (n m : ℕ) → other ≡ bytes → n ≡ m → first_fault n (judge other) ≡ first_fault m (judge bytes)

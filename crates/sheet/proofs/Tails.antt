@@ -13,7 +13,7 @@ use Rattle.sheet.specs.Sheets.{Lowest}
 use Rattle.sheet.proofs.Surveys.{first_same}
 
 module _ (bytes : List ℕ) (o : ℕ) (here : o ≡ step_count_at bytes) where
-  count_judged : cut_fault bytes o 2 ≡ step_count_fault bytes
+  pub count_judged : cut_fault bytes o 2 ≡ step_count_fault bytes
   count_judged = ap (λ k. cut_fault bytes k 2) here
 
   pub tail_count : (f : Fault) → cut_fault bytes o 2 ≡ Some f → tail_fault bytes ≡ Some f
@@ -27,7 +27,7 @@ module _ (bytes : List ℕ) (o : ℕ) (here : o ≡ step_count_at bytes) where
     steps_same : first_fault count (step_fault other) ≡ first_fault (step_count bytes) (step_fault bytes)
     steps_same = first_same step_fault bytes other count (step_count bytes) same counted
 
-    tail_from : tail_fault bytes ≡ (first_fault (step_count bytes) (step_fault bytes) ▹ first_fault (state_count bytes) (way_out_fault bytes) ▹ end_fault bytes)
+    pub tail_from : tail_fault bytes ≡ (first_fault (step_count bytes) (step_fault bytes) ▹ first_fault (state_count bytes) (way_out_fault bytes) ▹ end_fault bytes)
     unfolding tail_fault
     tail_from = none_then (step_count_fault bytes) _ (sym count_judged ∙ there)
 
@@ -47,7 +47,7 @@ module _ (bytes : List ℕ) (o : ℕ) (here : o ≡ step_count_at bytes) where
           let before = first_none low (way_out_fault bytes) (λ i b. way_out_none bytes i (lowest_of.below i b)) in
           ways_from ∙ some_then (first_fault (state_count bytes) (way_out_fault bytes)) _ (at NoWayOut low) (first_here (state_count bytes) low (way_out_fault bytes) (at NoWayOut low) h before stuck)
 
-      tail_end : state_count bytes ≤ low → tail_fault bytes ≡ end_fault bytes
+      pub tail_end : state_count bytes ≤ low → tail_fault bytes ≡ end_fault bytes
       tail_end h =
           ways_from ∙ none_then (first_fault (state_count bytes) (way_out_fault bytes)) _ (first_none (state_count bytes) (way_out_fault bytes) (λ i b. way_out_none bytes i (lowest_of.below i (omega arith))))
 

@@ -1,7 +1,9 @@
 -- What examining and opening a sheet answers.
 use Rattle.std.specs.Prelude.{◌≡◌, ℕ, ◌<◌, true, false, List, [], map, Some, None, Option}
+use Rattle.std.specs.Ordering.{nat_cmp, ordering_then}
+use Rattle.std.specs.declared.cmp.Ordering.{Ordering}
 use Rattle.fault.specs.declared.Fault.{Fault}
-use Rattle.layout.specs.Descriptions.{Description}
+use Rattle.layout.specs.Descriptions.{Step, Description}
 use Rattle.layout.specs.Fields.{u32_at, step_there, described}
 use Rattle.layout.specs.Judging.{some_leave, sheet_fault}
 use Rattle.sheet.specs.declared.parts.Parts.{Parts}
@@ -30,3 +32,11 @@ found_in bytes = described_unless (sheet_fault bytes) bytes
 pub record Lowest (bytes : List ℕ) (m low : ℕ) : Type 0 where
   pub below : (s : ℕ) → s < low → some_leave bytes s m ≡ true
   pub here : some_leave bytes low m ≡ false
+
+-- a step by its two states
+abbrev pub sought : ℕ → ℕ → Step
+sought s t = record { from = s; to = t; seconds = 0 }
+
+-- how a step compares with the states that are sought
+abbrev pub compared : Step → ℕ → ℕ → Ordering
+compared e s t = ordering_then (nat_cmp e.from s) (nat_cmp e.to t)

@@ -17,16 +17,26 @@ pub(crate) fn is_set(label: u32, bit: usize) -> bool
     (label >> bit) % 2 == 1
 }
 
+/// The state that a step leaves.
+pub(crate) fn left(entry: &[u8; 6]) -> usize
+    ensures { result ≡ (step_there entry.now 0).from }
+{
+    usize::from(u16::from_le_bytes([entry[0], entry[1]]))
+}
+
+/// The state that a step enters.
+pub(crate) fn entered(entry: &[u8; 6]) -> usize
+    ensures { result ≡ (step_there entry.now 0).to }
+{
+    usize::from(u16::from_le_bytes([entry[2], entry[3]]))
+}
+
 /// The states that a step leaves and enters.
 // A pair, whose own order is the order of the steps.
 pub(crate) fn joined(entry: &[u8; 6]) -> (usize, usize)
     ensures { result ≡ ((step_there entry.now 0).from, (step_there entry.now 0).to) }
 {
-    let [a, b, c, d, _, _] = *entry;
-    (
-        usize::from(u16::from_le_bytes([a, b])),
-        usize::from(u16::from_le_bytes([c, d])),
-    )
+    (left(entry), entered(entry))
 }
 
 /// The seconds of a step.

@@ -6,6 +6,7 @@ mod names;
 mod opened;
 mod parts;
 mod reader;
+mod search;
 mod survey;
 
 pub use examination::examine;

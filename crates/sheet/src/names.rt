@@ -89,6 +89,9 @@ impl<'a> Names<'a> {
     pub(crate) fn at(mut self, i: usize) -> Option<&'a [u8]>
         ensures { option_map (λ x. x.now) result ≡ slice_get (names_of self.entry) i }
     {
+        if i >= self.count {
+            return None;
+        }
         self.nth(i)
     }
 }

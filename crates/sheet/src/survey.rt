@@ -178,8 +178,9 @@ fn tail<'a>(reader: &mut Reader<'a>, states: usize) -> Result<&'a [[u8; 6]], Fau
     if low < states {
         return Err(Reason::NoWayOut.at(low));
     }
-    if !reader.rest().is_empty() {
-        return Err(Reason::LeftOver.at(reader.place()));
+    let end = reader.place();
+    if end < reader.bytes().len() {
+        return Err(Reason::LeftOver.at(end));
     }
     Ok(steps)
 }

@@ -7,8 +7,9 @@ ghost use Rattle.layout.specs.Encoding.{encode};
 ghost use Rattle.layout.specs.Judging.{sheet_model};
 
 use super::Sheet;
-use crate::entries::{is_set, joined, label, seconds};
+use crate::entries::{is_set, label, seconds};
 use crate::parts::Parts;
+use crate::search::search;
 use crate::survey::survey;
 use fault::Fault;
 use machine::Machine;
@@ -66,18 +67,20 @@ impl Machine for Sheet<'_> {
     }
 
     fn bears(&self, state: usize, word: &[u8]) -> bool {
-        match (self.parts.labels.get(state), self.parts.names.place(word)) {
-            (Some(entry), Some(bit)) => is_set(label(entry), bit),
-            _ => false,
+        if state >= self.states() {
+            return false;
+        }
+        match self.parts.names.place(word) {
+            Some(bit) => is_set(label(&self.parts.labels[state]), bit),
+            None => false,
         }
     }
 
     fn step(&self, from: usize, to: usize) -> Option<u16> {
-        let i = self
-            .parts
-            .steps
-            .binary_search_by_key(&(from, to), joined)
-            .ok()?;
+        if from >= self.states() || to >= self.states() {
+            return None;
+        }
+        let i = search(self.parts.steps, from, to).ok()?;
         Some(seconds(&self.parts.steps[i]))
     }
 }

@@ -1,6 +1,5 @@
-use Rattle.std.proofs.Common.{map, length, sym, ap, ◌∙◌, arith, length-drop}
+use Rattle.std.proofs.Common.{map, length, ap, ◌∙◌, arith}
 use Rattle.std.specs.List.{range_with_len}
-use Rattle.std.proofs.lemmas.Bool.{eqb-true, eqb-false}
 use Rattle.std.proofs.lemmas.Result.{err_from_is_err_and}
 use Rattle.layout.specs.Fields.{u16_at, step_in}
 use Rattle.sheet.specs.Fields.{cut_fault}
@@ -31,16 +30,14 @@ returns-then-low-states c =
     let steps = c.in_ok-steps.ensures in
     rw c.at.ensures (tail_way bytes o c.requires.here a.0 c.number.new.self.bytes.now c.from.result c.in_ok-count.ensures.moved.bytes (c.from.ensures ∙ a.1) steps.judged.0 c.in_ok-steps.low steps.judged.1 (omega (arith, c.if-low-states.true, c.requires.states)))
 
-pub returns-then-not-is_empty : goal.returns-then-not-is_empty
-returns-then-not-is_empty c =
+pub returns-then-end-bytes : goal.returns-then-end-bytes
+returns-then-end-bytes c =
     let bytes = c.args.reader.now.bytes.now in
     let o = c.args.reader.now.place in
     let a = accepted (cut_fault bytes o 2) (u16_at bytes o) _ c.in_ok-count.ensures.value in
     let steps = c.in_ok-steps.ensures in
-    let more = eqb-false (length c.rest.result.now) 0 (sym c.is_empty.ensures ∙ c.if-not-is_empty.true) in
-    let left = ap length c.rest.ensures ∙ length-drop c.steps.new.reader.place c.steps.new.reader.bytes.now in
-    rw (c.at-then-not-is_empty.ensures, c.place.ensures) (tail_over bytes o c.requires.here a.0 c.number.new.self.bytes.now c.from.result c.in_ok-count.ensures.moved.bytes (c.from.ensures ∙ a.1) steps.judged.0 c.in_ok-steps.low steps.judged.1 c.steps.new.reader.place steps.moved.place
-    (omega (arith, c.if-low-states.false, c.requires.states)) (omega (arith, more, left, ap length steps.moved.bytes)))
+    rw (c.at-then-end-bytes.ensures, c.place-end.ensures) (tail_over bytes o c.requires.here a.0 c.number.new.self.bytes.now c.from.result c.in_ok-count.ensures.moved.bytes (c.from.ensures ∙ a.1) steps.judged.0 c.in_ok-steps.low steps.judged.1 c.steps.new.reader.place steps.moved.place
+    (omega (arith, c.if-low-states.false, c.requires.states)) (omega (arith, c.if-end-bytes.true, c.place-end.ensures, ap length c.bytes.ensures, ap length steps.moved.bytes)))
 
 pub returns : goal.returns
 returns c =
@@ -48,10 +45,8 @@ returns c =
     let o = c.args.reader.now.place in
     let a = accepted (cut_fault bytes o 2) (u16_at bytes o) _ c.in_ok-count.ensures.value in
     let steps = c.in_ok-steps.ensures in
-    let nothing = eqb-true (length c.rest.result.now) 0 (sym c.is_empty.ensures ∙ c.if-not-is_empty.false) in
-    let left = ap length c.rest.ensures ∙ length-drop c.steps.new.reader.place c.steps.new.reader.bytes.now in
     let all = counted bytes o c.requires.here a.0 c.number.new.self.bytes.now c.from.result c.in_ok-count.ensures.moved.bytes (c.from.ensures ∙ a.1) in (
       tail_right bytes o c.requires.here a.0 c.number.new.self.bytes.now c.from.result c.in_ok-count.ensures.moved.bytes (c.from.ensures ∙ a.1) steps.judged.0 c.in_ok-steps.low steps.judged.1 c.steps.new.reader.place steps.moved.place
-          (omega (arith, c.if-low-states.false, c.requires.states)) (omega (arith, nothing, left, ap length steps.moved.bytes)),
+          (omega (arith, c.if-low-states.false, c.requires.states)) (omega (arith, c.if-end-bytes.false, c.place-end.ensures, ap length c.bytes.ensures, ap length steps.moved.bytes)),
       steps.judged.2 ∙ ap (λ b. map (step_in b) (range_with_len 0 c.from.result)) c.in_ok-count.ensures.moved.bytes ∙ ap (λ n. map (step_in bytes) (range_with_len 0 n)) all,
     )

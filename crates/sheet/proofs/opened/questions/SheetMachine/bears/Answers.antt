@@ -8,6 +8,6 @@ pub is_set-requires : goal.is_set-requires
 is_set-requires c =
     let x = c.args.self.now in
     let words = words_in x.parts.names.count x.parts.names.bytes.now in
-    let below = place_below 0 words c.args.word.now c.in-Some-Some.bit (sym c.in-Some-Some.ensures') in
+    let below = place_below 0 words c.args.word.now c.in-Some.bit (sym c.in-Some.ensures) in
     let few = (sheet_lawful x.bytes.now x.octets).few_names in
     omega (arith, below, few, ap (λ m. length m.names) (model_is x.bytes.now), ap (λ d. length d.names) x.found)
