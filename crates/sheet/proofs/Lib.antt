@@ -7,3 +7,5 @@ pub mod Steps
 pub mod Surveys
 pub mod Tails
 pub mod Words
+pub mod Places
+pub mod Halves
