@@ -1,5 +1,5 @@
 -- What the words of a command line ask for.
-use Rattle.std.proofs.Common.{◌≡◌, ℕ, ◌≤◌, ◌<◌, List, [], ◌∷◌, ◌++◌, length, Bor, refl, get_or, map, codes, String, Global, Ok, Err, Result, MatchResult, ap, sym, subst, ◌∙◌, arith}
+use Rattle.std.proofs.Common.{◌≡◌, ℕ, ◌≤◌, ◌<◌, List, [], ◌∷◌, ◌++◌, length, Bor, get_or, map, codes, String, Global, Ok, Err, Result, MatchResult, ap, sym, subst, ◌∙◌, arith}
 use Rattle.std.specs.String.{string_bytes}
 use Rattle.std.proofs.lemmas.List.{map-append, same_from_push}
 use Rattle.podsjeal.specs.declared.command.Command.TheVariants.{Examine, Rules}

@@ -52,10 +52,7 @@ impl Machine for Ring {
     ghost lawful = { ring_lawful };
 
     fn states(&self) -> usize {
-        match self.dome {
-            Some(dome) => dome.sectors(),
-            None => 0,
-        }
+        self.dome.map_or(0, |dome| dome.sectors())
     }
 
     fn names(&self) -> usize {
